@@ -1,0 +1,4 @@
+pub mod Sound
+pub mod HandOver
+pub mod Release
+pub mod World

@@ -1,0 +1,516 @@
+// Descriptors: their four words taken apart, the rules 14, 15 and 17 of one descriptor, and the controller's marks in one.
+// Promises: each rule gives its refusal number exactly where document 01 gives it, by the words alone; a mark changes the bits
+// that its step names and nothing else of descriptor memory, and is handed only the sixteen bytes of its own descriptor.
+// Document 01, "Memory, blocks and descriptors", "Judging", "The controller's steps".
+
+use layout::ADDRESS_END;
+use layout::Side;
+use words::read_word;
+use words::word_of;
+use words::write_word;
+ghost use mathlib.Core.Path.{_≡_};
+ghost use mathlib.Core.Logic.{_≢_};
+ghost use Prim.Native.Nat.{_+_, _-_, _*_, _/_, _%_, _^_, _≤_, _<_, min};
+ghost use lib.Dec.{eqb};
+ghost use lib.ListN.{length};
+ghost use Rattle.layout.specs.Choice.{pick};
+ghost use Rattle.layout.specs.Layout.{wordMax};
+ghost use Rattle.words.specs.Word.{wordAt, putWord, word, put};
+ghost use Rattle.descriptor.specs.Fields.{descAt, sop, eop, owner, eoq, td, packetLength, lengthOf, firstByte};
+ghost use Rattle.descriptor.specs.Rules.{sideAt, endFlagsFault, flagsFault, offsetBad, lengthFault, sopAt, sumAt, endFault, sumFault, behind, nextFault, ownFault, fetchFault};
+ghost use Rattle.descriptor.specs.Marks.{putLength, eoqMark, ownerMark, tdMark, lastMark, firstMark, changed, Fits, marked, lastMarked};
+
+// The flags of word 3, each by its weight.
+const SOP: u32 = 0x8000_0000;
+
+const EOP: u32 = 0x4000_0000;
+
+const OWNER: u32 = 0x2000_0000;
+
+const EOQ: u32 = 0x1000_0000;
+
+const TD: u32 = 0x0800_0000;
+
+const OVERRUN: u32 = 0x0040_0000;
+
+// One past the largest length of a receive buffer, and of a transmit buffer.
+const SHORT_END: u32 = 0x800;
+
+const LONG_END: u32 = 0x1_0000;
+
+const WORD_MAX: u32 = 0xFFFF_FFFF;
+
+// Refusal numbers.
+pub const BAD_FLAGS: u8 = 14;
+
+pub const BAD_LENGTH: u8 = 15;
+
+pub const BAD_PACKET: u8 = 17;
+
+// Where in a chain a descriptor stands: at the start of a packet; in the middle of one, with the SOP descriptor's word 3
+// and the sum of the lengths so far; or a receive buffer.
+pub enum Place {
+    Start,
+    Middle(u32, u32),
+    Buffer,
+}
+
+// A descriptor's four words.
+pub struct Descriptor {
+    pub next: u32,
+    pub buffer: u32,
+    pub word2: u32,
+    pub word3: u32,
+}
+
+// The descriptor whose first word is word d.
+pub fn descriptor_at(m: &[u8], d: usize) -> Descriptor
+    requires { ⌜ (length (now m) ≡ 8192) × (d ≤ 2044) ⌝ }
+    ensures { λ r. ⌜ r ≡ descAt (word (now (m .entry))) d ⌝ }
+{
+    Descriptor {
+        next: word_of(m, d),
+        buffer: word_of(m, d + 1),
+        word2: word_of(m, d + 2),
+        word3: word_of(m, d + 3),
+    }
+}
+
+pub fn has_sop(x3: u32) -> bool
+    ensures { λ r. ⌜ r ≡ sop x3 ⌝ }
+{
+    x3 / SOP % 2 == 1
+}
+
+pub fn has_eop(x3: u32) -> bool
+    ensures { λ r. ⌜ r ≡ eop x3 ⌝ }
+{
+    x3 / EOP % 2 == 1
+}
+
+pub fn has_owner(x3: u32) -> bool
+    ensures { λ r. ⌜ r ≡ owner x3 ⌝ }
+{
+    x3 / OWNER % 2 == 1
+}
+
+pub fn has_eoq(x3: u32) -> bool
+    ensures { λ r. ⌜ r ≡ eoq x3 ⌝ }
+{
+    x3 / EOQ % 2 == 1
+}
+
+pub fn has_td(x3: u32) -> bool
+    ensures { λ r. ⌜ r ≡ td x3 ⌝ }
+{
+    x3 / TD % 2 == 1
+}
+
+pub fn packet_length(x3: u32) -> u32
+    ensures { λ r. ⌜ r ≡ packetLength x3 ⌝ }
+{
+    x3 % SHORT_END
+}
+
+// The length in word 2.
+pub fn length_of(side: Side, x2: u32) -> u32
+    ensures { λ r. ⌜ (r ≡ lengthOf side x2) × (r < 65536) ⌝ }
+{
+    match side {
+        Side::Transmit => x2 % LONG_END,
+        Side::Receive => x2 % SHORT_END,
+    }
+}
+
+// The first byte of a transmit buffer: the offset counts on the SOP descriptor alone.
+fn transmit_byte(x1: u32, x2: u32, x3: u32) -> u64
+    ensures { λ r. ⌜ (r ≡ firstByte Side.Transmit x1 x2 x3) × (r < 2 ^ 33) ⌝ }
+{
+    if has_sop(x3) {
+        return x1 as u64 + (x2 / LONG_END) as u64;
+    }
+    x1 as u64
+}
+
+// The first byte of a buffer.
+pub fn first_byte(side: Side, x1: u32, x2: u32, x3: u32) -> u64
+    ensures { λ r. ⌜ (r ≡ firstByte side x1 x2 x3) × (r < 2 ^ 33) ⌝ }
+{
+    match side {
+        Side::Transmit => transmit_byte(x1, x2, x3),
+        Side::Receive => x1 as u64,
+    }
+}
+
+// The side of a chain in which a descriptor stands so.
+pub fn side_at(pl: Place) -> Side
+    ensures { λ r. ⌜ r ≡ sideAt pl ⌝ }
+{
+    match pl {
+        Place::Start => Side::Transmit,
+        Place::Middle(_, _) => Side::Transmit,
+        Place::Buffer => Side::Receive,
+    }
+}
+
+// 14 for EOQ and TD, which stand on no descriptor that is handed over.
+fn end_flags_fault(x3: u32) -> u8
+    ensures { λ r. ⌜ r ≡ endFlagsFault x3 ⌝ }
+{
+    if has_eoq(x3) {
+        return BAD_FLAGS;
+    }
+    if has_td(x3) {
+        return BAD_FLAGS;
+    }
+    0
+}
+
+fn start_flags(x3: u32) -> u8
+    ensures { λ r. ⌜ r ≡ flagsFault Place.Start x3 ⌝ }
+{
+    if !has_sop(x3) {
+        return BAD_FLAGS;
+    }
+    if !has_owner(x3) {
+        return BAD_FLAGS;
+    }
+    end_flags_fault(x3)
+}
+
+fn middle_flags(s: u32, n: u32, x3: u32) -> u8
+    ensures { λ r. ⌜ r ≡ flagsFault (Place.Middle s n) x3 ⌝ }
+{
+    if has_sop(x3) {
+        return BAD_FLAGS;
+    }
+    end_flags_fault(x3)
+}
+
+fn buffer_flags(x3: u32) -> u8
+    ensures { λ r. ⌜ r ≡ flagsFault Place.Buffer x3 ⌝ }
+{
+    if !has_owner(x3) {
+        return BAD_FLAGS;
+    }
+    if has_sop(x3) {
+        return BAD_FLAGS;
+    }
+    if has_eop(x3) {
+        return BAD_FLAGS;
+    }
+    end_flags_fault(x3)
+}
+
+// 14.
+pub fn flags_fault(pl: Place, x3: u32) -> u8
+    ensures { λ r. ⌜ r ≡ flagsFault pl x3 ⌝ }
+{
+    match pl {
+        Place::Start => start_flags(x3),
+        Place::Middle(s, n) => middle_flags(s, n, x3),
+        Place::Buffer => buffer_flags(x3),
+    }
+}
+
+// Whether there is an offset where none is allowed.
+fn is_offset_bad(side: Side, x2: u32) -> bool
+    ensures { λ r. ⌜ r ≡ offsetBad side x2 ⌝ }
+{
+    match side {
+        Side::Transmit => false,
+        Side::Receive => x2 / LONG_END % SHORT_END != 0,
+    }
+}
+
+// 15.
+pub fn length_fault(side: Side, x1: u32, x2: u32, x3: u32) -> u8
+    ensures { λ r. ⌜ r ≡ lengthFault side x1 x2 x3 ⌝ }
+{
+    let n = length_of(side, x2);
+    if n == 0 {
+        return BAD_LENGTH;
+    }
+    if is_offset_bad(side, x2) {
+        return BAD_LENGTH;
+    }
+    let first = first_byte(side, x1, x2, x3);
+    if ADDRESS_END < first + n as u64 {
+        return BAD_LENGTH;
+    }
+    0
+}
+
+// Word 3 of the packet's SOP descriptor.
+pub fn sop_at(pl: Place, x3: u32) -> u32
+    ensures { λ r. ⌜ r ≡ sopAt pl x3 ⌝ }
+{
+    match pl {
+        Place::Start => x3,
+        Place::Middle(s, _) => s,
+        Place::Buffer => 0,
+    }
+}
+
+// One length more. The sum stops at the largest word, far above any packet length.
+fn add_length(n: u32, x2: u32) -> u32
+    ensures { λ r. ⌜ r ≡ min (n + lengthOf Side.Transmit x2) wordMax ⌝ }
+{
+    let more = length_of(Side::Transmit, x2);
+    if WORD_MAX - n < more {
+        return WORD_MAX;
+    }
+    n + more
+}
+
+// The packet's lengths up to this descriptor.
+pub fn sum_at(pl: Place, x2: u32) -> u32
+    ensures { λ r. ⌜ r ≡ sumAt pl x2 ⌝ }
+{
+    match pl {
+        Place::Start => length_of(Side::Transmit, x2),
+        Place::Middle(_, n) => add_length(n, x2),
+        Place::Buffer => 0,
+    }
+}
+
+// 17 at the end of a packet.
+pub fn end_fault(sop: u32, sum: u32) -> u8
+    ensures { λ r. ⌜ r ≡ endFault sop sum ⌝ }
+{
+    if sum == packet_length(sop) {
+        return 0;
+    }
+    BAD_PACKET
+}
+
+// 17 at this descriptor, where it is the packet's last. On a receive buffer word and sum are both 0, and agree.
+pub fn sum_fault(pl: Place, x2: u32, x3: u32) -> u8
+    ensures { λ r. ⌜ r ≡ sumFault pl x2 x3 ⌝ }
+{
+    if !has_eop(x3) {
+        return 0;
+    }
+    end_fault(sop_at(pl, x3), sum_at(pl, x2))
+}
+
+// What follows a descriptor of the packet whose SOP word 3 is s and whose lengths sum to n so far.
+fn packet_behind(s: u32, n: u32, x3: u32) -> Place
+    ensures { λ r. ⌜ r ≡ pick (eop x3) Place.Start (Place.Middle s n) ⌝ }
+{
+    if has_eop(x3) {
+        return Place::Start;
+    }
+    Place::Middle(s, n)
+}
+
+// The place of the descriptor after this one.
+pub fn behind(pl: Place, x2: u32, x3: u32) -> Place
+    ensures { λ r. ⌜ r ≡ behind pl x2 x3 ⌝ }
+{
+    let sum = sum_at(pl, x2);
+    match pl {
+        Place::Start => packet_behind(x3, sum, x3),
+        Place::Middle(s, _) => packet_behind(s, sum, x3),
+        Place::Buffer => Place::Buffer,
+    }
+}
+
+// 17 where the chain ends inside a packet. pl is the place behind the descriptor.
+pub fn next_fault(pl: Place, x0: u32) -> u8
+    ensures { λ r. ⌜ r ≡ nextFault pl x0 ⌝ }
+{
+    if x0 != 0 {
+        return 0;
+    }
+    match pl {
+        Place::Start => 0,
+        Place::Middle(_, _) => BAD_PACKET,
+        Place::Buffer => 0,
+    }
+}
+
+// 14, then 15, then 17 at EOP.
+pub fn own_fault(pl: Place, x1: u32, x2: u32, x3: u32) -> u8
+    ensures { λ r. ⌜ r ≡ ownFault pl x1 x2 x3 ⌝ }
+{
+    let flags = flags_fault(pl, x3);
+    if flags != 0 {
+        return flags;
+    }
+    let length = length_fault(side_at(pl), x1, x2, x3);
+    if length != 0 {
+        return length;
+    }
+    sum_fault(pl, x2, x3)
+}
+
+// All that the controller's fetch asks of the words.
+pub fn fetch_fault(pl: Place, x0: u32, x1: u32, x2: u32, x3: u32) -> u8
+    ensures { λ r. ⌜ r ≡ fetchFault pl x0 x1 x2 x3 ⌝ }
+{
+    let own = own_fault(pl, x1, x2, x3);
+    if own != 0 {
+        return own;
+    }
+    next_fault(behind(pl, x2, x3), x0)
+}
+
+// A word with the bit of weight n set. Whoever names the weight knows that the sum fits.
+fn set_bit(w: u32, n: u32) -> u32
+    requires { ⌜ (1 ≤ n) × (w / n % 2 ≢ 1 → w + n < 2 ^ 32) ⌝ }
+    ensures { λ r. ⌜ r ≡ pick (eqb (w / n % 2) 1) w (w + n) ⌝ }
+{
+    if w / n % 2 == 1 {
+        return w;
+    }
+    w + n
+}
+
+// A word with the bit of weight n clear.
+fn clear_bit(w: u32, n: u32) -> u32
+    requires { ⌜ (1 ≤ n) × (w / n % 2 ≡ 1 → n ≤ w) ⌝ }
+    ensures { λ r. ⌜ r ≡ pick (eqb (w / n % 2) 1) (w - n) w ⌝ }
+{
+    if w / n % 2 == 1 {
+        return w - n;
+    }
+    w
+}
+
+// A word with n as its packet length, or as a receive buffer's length.
+pub fn put_length(n: u32, w: u32) -> u32
+    requires { ⌜ n < 2048 ⌝ }
+    ensures { λ r. ⌜ r ≡ putLength n w ⌝ }
+{
+    w - w % SHORT_END + n
+}
+
+// Transmit step 4.
+pub fn eoq_mark(x3: u32) -> u32
+    ensures { λ r. ⌜ r ≡ eoqMark x3 ⌝ }
+{
+    set_bit(x3, EOQ)
+}
+
+// Transmit step 5.
+pub fn owner_mark(x3: u32) -> u32
+    ensures { λ r. ⌜ r ≡ ownerMark x3 ⌝ }
+{
+    clear_bit(x3, OWNER)
+}
+
+// Teardown step 1.
+pub fn td_mark(x3: u32) -> u32
+    ensures { λ r. ⌜ r ≡ tdMark x3 ⌝ }
+{
+    set_bit(x3, TD)
+}
+
+// Receive step 4, in word 3.
+pub fn last_mark(latched: u32, x3: u32) -> u32
+    ensures { λ r. ⌜ r ≡ lastMark latched x3 ⌝ }
+{
+    let ended = set_bit(x3, EOP);
+    if latched == 0 {
+        return set_bit(ended, EOQ);
+    }
+    ended
+}
+
+// Receive step 5, in word 3.
+pub fn first_mark(stored: u32, overrun: bool, x3: u32) -> u32
+    requires { ⌜ stored < 2048 ⌝ }
+    ensures { λ r. ⌜ r ≡ firstMark stored overrun x3 ⌝ }
+{
+    let begun = set_bit(put_length(stored, x3), SOP);
+    if overrun {
+        return clear_bit(set_bit(begun, OVERRUN), OWNER);
+    }
+    clear_bit(clear_bit(begun, OVERRUN), OWNER)
+}
+
+// One word's mark, as the marking leaf takes it.
+enum Mark {
+    Eoq,
+    Owner,
+    Td,
+    Length(u32),
+    Last(u32),
+    First(u32, bool),
+}
+
+// The word with its mark.
+fn mark_word(k: Mark, w: u32) -> u32
+    requires { ⌜ Fits k ⌝ }
+    ensures { λ r. ⌜ r ≡ changed k w ⌝ }
+{
+    match k {
+        Mark::Eoq => eoq_mark(w),
+        Mark::Owner => owner_mark(w),
+        Mark::Td => td_mark(w),
+        Mark::Length(n) => put_length(n, w),
+        Mark::Last(latched) => last_mark(latched, w),
+        Mark::First(stored, overrun) => first_mark(stored, overrun, w),
+    }
+}
+
+// Marks word i of the descriptor whose sixteen bytes these are.
+fn mark_part(part: &mut [u8], i: usize, k: Mark)
+    requires { ⌜ (length (now part) ≡ 16) × (i < 4) × Fits k ⌝ }
+    ensures { λ _. ⌜ now (part .exit) ≡ putWord (now (part .entry)) (4 * i) (changed k (wordAt (now (part .entry)) (4 * i))) ⌝ }
+{
+    let w = read_word(&part[..], 4 * i);
+    write_word(part, 4 * i, mark_word(k, w));
+}
+
+// Marks word i of the descriptor at word d: its sixteen bytes are lent on.
+fn mark_at(m: &mut [u8], d: usize, i: usize, k: Mark)
+    requires { ⌜ (length (now m) ≡ 8192) × (d ≤ 2044) × (i < 4) × Fits k ⌝ }
+    ensures { λ _. ⌜ now (m .exit) ≡ put (now (m .entry)) (d + i) (changed k (word (now (m .entry)) (d + i))) ⌝ }
+{
+    let a = 4 * d;
+    let e = a + 16;
+    mark_part(&mut m[a..e], i, k);
+}
+
+// Transmit step 4: sets EOQ in the descriptor at word d.
+pub fn mark_eoq(m: &mut [u8], d: usize)
+    requires { ⌜ (length (now m) ≡ 8192) × (d ≤ 2044) ⌝ }
+    ensures { λ _. ⌜ now (m .exit) ≡ marked eoqMark d (now (m .entry)) ⌝ }
+{
+    mark_at(m, d, 3, Mark::Eoq);
+}
+
+// Transmit step 5: clears OWNER.
+pub fn mark_owner(m: &mut [u8], d: usize)
+    requires { ⌜ (length (now m) ≡ 8192) × (d ≤ 2044) ⌝ }
+    ensures { λ _. ⌜ now (m .exit) ≡ marked ownerMark d (now (m .entry)) ⌝ }
+{
+    mark_at(m, d, 3, Mark::Owner);
+}
+
+// Teardown step 1: sets TD.
+pub fn mark_td(m: &mut [u8], d: usize)
+    requires { ⌜ (length (now m) ≡ 8192) × (d ≤ 2044) ⌝ }
+    ensures { λ _. ⌜ now (m .exit) ≡ marked tdMark d (now (m .entry)) ⌝ }
+{
+    mark_at(m, d, 3, Mark::Td);
+}
+
+// Receive step 5: the frame's first descriptor.
+pub fn mark_first(m: &mut [u8], d: usize, stored: u32, overrun: bool)
+    requires { ⌜ (length (now m) ≡ 8192) × (d ≤ 2044) × (stored < 2048) ⌝ }
+    ensures { λ _. ⌜ now (m .exit) ≡ marked (firstMark stored overrun) d (now (m .entry)) ⌝ }
+{
+    mark_at(m, d, 3, Mark::First(stored, overrun));
+}
+
+// Receive step 4: the frame's last descriptor, in word 2 and in word 3.
+pub fn mark_last(m: &mut [u8], d: usize, here: u32, latched: u32)
+    requires { ⌜ (length (now m) ≡ 8192) × (d ≤ 2044) × (here < 2048) ⌝ }
+    ensures { λ _. ⌜ now (m .exit) ≡ lastMarked here latched d (now (m .entry)) ⌝ }
+{
+    mark_at(m, d, 2, Mark::Length(here));
+    mark_at(m, d, 3, Mark::Last(latched));
+}

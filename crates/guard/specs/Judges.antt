@@ -1,0 +1,113 @@
+-- The judges of a guest write, over a fit, sound and released world. Document 01, "Judging".
+--     placeOf side                where a chain of that side begins
+--     judgeChain side p s         the chain from p, over the words in use
+--     judgeHead q v s             HDP of queue q
+--     judgeRegister n v s         any other register, by its class
+--     lastFrom w n p, isLast      the last descriptor of a queue
+--     judgeAppend, judgeWord      a word of descriptor memory
+--     judge a v s                 any address, from 3 on
+-- Assumes nothing: these are definitions.
+use Prim.Native.Nat.{ℕ, zero, suc, _+_, _*_, _-_, _/_, _%_}
+use mathlib.Core.Bool.{Bool, true, false, not}
+use mathlib.Core.List.{List}
+use lib.ListN.{getD, set}
+use lib.Dec.{eqb, ltb}
+use Rattle.layout.specs.Choice.{pick, both}
+use Rattle.layout.specs.Layout.{descFirst, descBytes, descWords, goodPtr, wordOf, addr}
+use Rattle.layout.specs.Class.{classAt, hdpClass}
+use Rattle.layout.specs.declared.Side.{Side}
+use Rattle.layout.specs.declared.Side.the-variants.{Transmit, Receive}
+use Rattle.words.specs.Word.{word, put}
+use Rattle.words.specs.WordSet.{has}
+use Rattle.descriptor.specs.declared.Place.{Place}
+use Rattle.descriptor.specs.declared.Place.the-variants.{Start, Buffer}
+use Rattle.registers.specs.Pending.{queues, sideOf, queueOf, awaiting, setHdp}
+use Rattle.registers.specs.Rules.{headFault, registerFault, headWritten, written}
+use Rattle.chain.specs.Chain.{JOut, chainOf}
+use Rattle.book.specs.HandOver.{takenFrom}
+use Rattle.book.specs.World.{World, setMem, setHeads, setFlags, setRegs, headOf}
+use Rattle.guard.specs.declared.Effect.the-variants.{Plain, Started, Appended}
+use Rattle.guard.specs.Answers.{Outcome, accept, refuse}
+
+abbrev pub placeOf : Side → Place
+placeOf Transmit = Start
+placeOf Receive = Buffer
+
+-- "then the chain, 12 to 17": 13 is asked of the words in use too
+abbrev pub judgeChain : Side → ℕ → World → JOut
+judgeChain side p s = chainOf (s .kinds) (word (s .mem)) (placeOf side) (s .used) p
+
+-- "a start sets HDP and the book's head, words and lengths"
+abbrev pub started : ℕ → ℕ → World → World
+started q p s =
+    setRegs (setHdp q p (s .regs))
+    (setHeads (set (s .book .heads) q p) (takenFrom (word (s .mem)) (sideOf q) (s .used, s .lens) p) s)
+
+abbrev pub judgeStart : ℕ → ℕ → World → Outcome
+judgeStart q p s =
+    let j = judgeChain (sideOf q) p s in
+    pick (eqb (j .0) 0) (accept (Started (sideOf q)) (started q p s)) (refuse (j .0) s)
+
+-- "HDP. Awaiting initialisation ..: 0 is accepted, stored and marks it, else 6. Otherwise 7; 8 for that side; 9 for value 0;
+-- 10 if that HDP reads nonzero or the book's queue there is not empty; then the chain, 12 to 17."
+unfoldable pub judgeHead : ℕ → ℕ → World → Outcome
+judgeHead q v s =
+    let f = s .book .flags in
+    let n = headFault f (s .regs) q v in
+    let x = headWritten f (s .regs) q v in
+    let chained = judgeStart q v s in
+    pick (eqb n 0)
+    (pick (awaiting f)
+    (accept Plain (setRegs (x .regs) (setFlags (x .flags) s)))
+    (pick (eqb (headOf s q) 0) chained (refuse 10 s)))
+    (refuse n s)
+
+-- CP, teardown, reset, the two registers that take 0 only, those that pass, those not offered (5) or not guarded (4)
+unfoldable pub judgeRegister : ℕ → ℕ → World → Outcome
+judgeRegister n v s =
+    let k = registerFault (s .book .flags) (s .regs) n v in
+    let x = written (s .book .flags) (s .regs) n v in
+    pick (eqb k 0) (accept Plain (setRegs (x .regs) (setFlags (x .flags) s))) (refuse k s)
+
+-- the last descriptor from p on: the first whose next names no further one
+abbrev pub lastFrom : (ℕ → ℕ) → ℕ → ℕ → ℕ
+lastFrom w zero p = p
+lastFrom w (suc n) p = let r = lastFrom w n (w (wordOf p)) in pick (goodPtr (w (wordOf p))) r p
+
+-- word k is word 0 of the last descriptor of the queue with that head
+unfoldable pub isLast : (ℕ → ℕ) → ℕ → ℕ → Bool
+isLast w head k = pick (goodPtr head) (eqb (lastFrom w descWords head) (addr k)) false
+
+-- "An append stores its word and adds words and lengths", "judged as a chain for that side"
+unfoldable pub judgeAppend : Side → ℕ → ℕ → World → Outcome
+judgeAppend side k p s =
+    let j = judgeChain side p s in
+    pick (eqb (j .0) 0)
+    (accept (Appended side)
+    (setMem (put (s .mem) k p) (setHeads (s .book .heads) (takenFrom (word (s .mem)) side (s .used, s .lens) p) s)))
+    (refuse (j .0) s)
+
+-- "A descriptor word not in use: stored. Word 0 of a queue's last descriptor, now 0, written nonzero: an append ..
+-- Any other word in use: 11."
+unfoldable pub judgeWord : ℕ → ℕ → World → Outcome
+judgeWord k v s =
+    let w = word (s .mem) in
+    let transmit = judgeAppend Transmit k v s in
+    let receive = judgeAppend Receive k v s in
+    let append =
+    pick (isLast w (headOf s (queueOf Transmit)) k) transmit
+    (pick (isLast w (headOf s (queueOf Receive)) k) receive (refuse 11 s)) in
+    pick (has (s .used) k)
+    (pick (both (eqb (w k) 0) (not (eqb v 0))) append (refuse 11 s))
+    (accept Plain (setMem (put (s .mem) k v) s))
+
+-- "3 address not a multiple of 4", then descriptor memory or a register, of which 4 is "address not guarded"
+unfoldable pub judge : ℕ → ℕ → World → Outcome
+judge a v s =
+    let inMemory = judgeWord ((a - descFirst) / 4) v s in
+    let head = judgeHead (classAt a - hdpClass) v s in
+    let register = judgeRegister (classAt a) v s in
+    pick (eqb (a % 4) 0)
+    (pick (both (not (ltb a descFirst)) (ltb a (descFirst + descBytes))) inMemory
+    (pick (ltb (classAt a) (hdpClass + queues)) head register))
+    (refuse 3 s)
