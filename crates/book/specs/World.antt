@@ -1,7 +1,7 @@
 -- All that a guard call may read and change, in one record, and the release of a whole world.
 -- Document 01, "The guard may read the book, descriptor memory, kinds, both HDPs, both CPs and the reset bit".
 --     World                     descriptor memory, kinds, the book (heads and flags, words in use, lengths), registers
---     unfit s                   1: "descriptor memory not 8,192 bytes, N out of range, or a kind byte over 4"
+--     fitParts m kinds, unfit s 1: "descriptor memory not 8,192 bytes, N out of range, or a kind byte over 4"
 --     soundWorld s              2 where false
 --     release s                 "Every guard call not answered 1 or 2 first releases"
 -- Assumes nothing: these are definitions.
@@ -61,8 +61,11 @@ setRegs r s = record { mem = s .mem; kinds = s .kinds; book = s .book; used = s 
 abbrev pub headOf : World → ℕ → ℕ
 headOf s q = getD (s .book .heads) q 0
 
+unfoldable pub fitParts : List ℕ → List ℕ → Bool
+fitParts m kinds = both (eqb (length m) descBytes) (fitKinds kinds)
+
 unfoldable pub unfit : World → Bool
-unfit s = not (both (eqb (length (s .mem)) descBytes) (fitKinds (s .kinds)))
+unfit s = not (fitParts (s .mem) (s .kinds))
 
 unfoldable pub soundWorld : World → Bool
 soundWorld s = sound (word (s .mem)) (s .book .heads) (s .used) (s .lens)

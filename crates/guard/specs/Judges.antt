@@ -4,7 +4,9 @@
 --     judgeHead q v s             HDP of queue q
 --     judgeRegister n v s         any other register, by its class
 --     lastFrom w n p, isLast      the last descriptor of a queue
---     judgeAppend, judgeWord      a word of descriptor memory
+--     judgeAppend, judgeLast      an append, and which queue it is to
+--     judgeWord k v s             a word of descriptor memory
+--     judgeClass n v s            a register of class n
 --     judge a v s                 any address, from 3 on
 -- Assumes nothing: these are definitions.
 use Prim.Native.Nat.{ℕ, zero, suc, _+_, _*_, _-_, _/_, _%_}
@@ -87,27 +89,35 @@ judgeAppend side k p s =
     (setMem (put (s .mem) k p) (setHeads (s .book .heads) (takenFrom (word (s .mem)) side (s .used, s .lens) p) s)))
     (refuse (j .0) s)
 
--- "A descriptor word not in use: stored. Word 0 of a queue's last descriptor, now 0, written nonzero: an append ..
--- Any other word in use: 11."
-unfoldable pub judgeWord : ℕ → ℕ → World → Outcome
-judgeWord k v s =
+-- "Word 0 of a queue's last descriptor, now 0, written nonzero: an append, judged as a chain for that side"; else 11
+unfoldable pub judgeLast : ℕ → ℕ → World → Outcome
+judgeLast k v s =
     let w = word (s .mem) in
     let transmit = judgeAppend Transmit k v s in
     let receive = judgeAppend Receive k v s in
-    let append =
     pick (isLast w (headOf s (queueOf Transmit)) k) transmit
-    (pick (isLast w (headOf s (queueOf Receive)) k) receive (refuse 11 s)) in
+    (pick (isLast w (headOf s (queueOf Receive)) k) receive (refuse 11 s))
+
+-- "A descriptor word not in use: stored. .. Any other word in use: 11."
+unfoldable pub judgeWord : ℕ → ℕ → World → Outcome
+judgeWord k v s =
+    let last = judgeLast k v s in
     pick (has (s .used) k)
-    (pick (both (eqb (w k) 0) (not (eqb v 0))) append (refuse 11 s))
+    (pick (both (eqb (word (s .mem) k) 0) (not (eqb v 0))) last (refuse 11 s))
     (accept Plain (setMem (put (s .mem) k v) s))
+
+-- a register by its class
+unfoldable pub judgeClass : ℕ → ℕ → World → Outcome
+judgeClass n v s =
+    let head = judgeHead (n - hdpClass) v s in
+    let register = judgeRegister n v s in
+    pick (ltb n (hdpClass + queues)) head register
 
 -- "3 address not a multiple of 4", then descriptor memory or a register, of which 4 is "address not guarded"
 unfoldable pub judge : ℕ → ℕ → World → Outcome
 judge a v s =
     let inMemory = judgeWord ((a - descFirst) / 4) v s in
-    let head = judgeHead (classAt a - hdpClass) v s in
-    let register = judgeRegister (classAt a) v s in
+    let register = judgeClass (classAt a) v s in
     pick (eqb (a % 4) 0)
-    (pick (both (not (ltb a descFirst)) (ltb a (descFirst + descBytes))) inMemory
-    (pick (ltb (classAt a) (hdpClass + queues)) head register))
+    (pick (both (not (ltb a descFirst)) (ltb a (descFirst + descBytes))) inMemory register)
     (refuse 3 s)

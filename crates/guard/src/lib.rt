@@ -1,5 +1,7 @@
 // stub
+use book::Book;
 use layout::Side;
+use registers::Regs;
 
 // What an accepted write did.
 pub enum Effect {
@@ -12,4 +14,11 @@ pub enum Effect {
 pub enum Answer {
     Accepted(Effect),
     Refused(u8),
+}
+
+// The answer, with heads, flags and registers as the call leaves them.
+pub struct Done {
+    pub answer: Answer,
+    pub book: Book,
+    pub regs: Regs,
 }

@@ -29,9 +29,9 @@ use Rattle.descriptor.specs.declared.Place.{Place}
 use Rattle.chain.specs.Chain.{blockFault, descFault, JSt, JOut, pastDesc, judgeStep, chainOf}
 use Rattle.book.specs.HandOver.{Uses, recordOf, takeOne, takeStep, takenFrom}
 use Rattle.queue.specs.Queue.{start, All, Linked, Off, Apart, Sole, Recorded, flat, receiving, Unmet, addAll, takeAll, ownAt, behindAt, Fresh, RoomAt, Roomy}
-use Rattle.queue.proofs.LinkLaws.{all-left, all-right, all-join, linked-small}
-use Rattle.queue.proofs.SoleLaws.{sole-apart, apart-left, apart-right}
-use Rattle.queue.proofs.RecordLaws.{None, receiving-all, gain, take-words, sole-add-all, take-other, take-there, recorded-take}
+use Rattle.queue.proofs.LinkLaws.{linked-small}
+use Rattle.queue.proofs.SoleLaws.{sole-apart, apart-left}
+use Rattle.queue.proofs.RecordLaws.{None, apart-receiving-behind, gain, take-words, sole-add-all, take-other, take-there, recorded-take}
 use Rattle.queue.proofs.FreshLaws.{own-pass, side-behind, fresh-fits}
 
 -- ---- one descriptor without fault
@@ -204,32 +204,10 @@ list-taken w pl u qs ds l f g s r =
     (record {
       words = take-words w (sideAt pl) u ds;
       sole = rw (take-words w (sideAt pl) u ds) t;
-      recorded = recorded-take w (sideAt pl) u ds (receiving qs) b (apart-part ds qs a) (fresh-fits w pl ds g) r;
+      recorded = recorded-take w (sideAt pl) u ds (receiving qs) b (apart-receiving-behind ds qs a) (fresh-fits w pl ds g) r;
       lengths = take-there w (sideAt pl) u ds (r .size) b (apart-left ds (flat qs) a);
       others = take-other w (sideAt pl) u ds;
     })
-  where
-    -- apart from all descriptors, apart from those of the receive queues
-    rest-part : (qs : List (List ℕ)) → Apart (flat qs) → Apart (receiving qs)
-    rest-part [] a = tt
-    rest-part (t ∷ []) a = tt
-    rest-part (t ∷ r ∷ qs) a =
-        let b = apart-right t (r ++ flat qs) a in
-        apart-cut r qs (λ x. rest-part qs x) b
-      where
-        apart-cut : (r : List ℕ) (qs : List (List ℕ)) → (Apart (flat qs) → Apart (receiving qs)) → Apart (r ++ flat qs) → Apart (r ++ receiving qs)
-        apart-cut [] qs h a = h a
-        apart-cut (d ∷ r) qs h a = (
-          all-join (Off d) r (receiving qs) (all-left (Off d) r (flat qs) (a .0)) (receiving-all (Off d) qs (all-right (Off d) r (flat qs) (a .0))),
-          apart-cut r qs h (a .1),
-        )
-
-    apart-part : (ds : List ℕ) (qs : List (List ℕ)) → Apart (ds ++ flat qs) → Apart (ds ++ receiving qs)
-    apart-part [] qs a = rest-part qs a
-    apart-part (d ∷ ds) qs a = (
-      all-join (Off d) ds (receiving qs) (all-left (Off d) ds (flat qs) (a .0)) (receiving-all (Off d) qs (all-right (Off d) ds (flat qs) (a .0))),
-      apart-part ds qs (a .1),
-    )
 
 pub judged-taken : (kinds : List ℕ) (w : ℕ → ℕ) (pl : Place) (u : Uses) (p : ℕ) (out : List ℕ) (qs : List (List ℕ)) (j : Judged kinds w pl (u .0) p out)
     → Sole (u .0) (flat qs) → Recorded (u .1) (receiving qs) → Taken w (sideAt pl) u (takenFrom w (sideAt pl) u p) qs (j .ds)

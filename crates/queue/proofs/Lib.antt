@@ -6,3 +6,5 @@ pub mod RecordLaws
 pub mod ReleasedLaws
 pub mod FreshLaws
 pub mod JudgedLaws
+pub mod SoundLaws
+pub mod LastLaws

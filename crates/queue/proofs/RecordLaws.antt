@@ -2,6 +2,7 @@
 --     Fits n                   1 to 2,047
 --     None k ds                k is none of the list; none-or: equal or not
 --     receiving-all            what holds of all descriptors holds of those of the receive queues
+--     apart-receiving, apart-receiving-behind   those are apart where all are
 --     apart-none               descriptors that are apart are not the same
 --     drop-append              dropping, in parts
 --     sole-drop-all            dropped descriptors leave exactly the others in use
@@ -32,7 +33,7 @@ use Rattle.descriptor.specs.Fields.{lengthOf}
 use Rattle.book.specs.HandOver.{Uses, recordOf, takeOne, dropOne}
 use Rattle.queue.specs.Queue.{All, Off, Apart, count, Sole, Recorded, flat, receiving, Unmet, addAll, dropAll, takeAll}
 use Rattle.queue.proofs.LinkLaws.{all-left, all-right, all-join, all-map, all-mid}
-use Rattle.queue.proofs.SoleLaws.{count-append, sole-perm, sole-drop, sole-add, off-ne, apart-back}
+use Rattle.queue.proofs.SoleLaws.{count-append, sole-perm, sole-drop, sole-add, off-ne, apart-right, apart-back}
 
 abbrev pub Fits : ℕ → Type 0
 Fits n = (1 ≤ n) × (n ≤ lengthMax)
@@ -55,6 +56,22 @@ receiving-all P (t ∷ []) a = tt
 receiving-all P (t ∷ r ∷ qs) a =
     let b = all-right P t (r ++ flat qs) a in
     all-join P r (receiving qs) (all-left P r (flat qs) b) (receiving-all P qs (all-right P r (flat qs) b))
+
+-- apart from all descriptors, apart from those of the receive queues
+-- part of a list that is behind others
+apart-cut : (ds es fs : List ℕ) → ((P : ℕ → Type 0) → All P es → All P fs) → (Apart es → Apart fs) → Apart (ds ++ es) → Apart (ds ++ fs)
+apart-cut [] es fs f g a = g a
+apart-cut (d ∷ ds) es fs f g a =
+    (all-join (Off d) ds fs (all-left (Off d) ds es (a .0)) (f (Off d) (all-right (Off d) ds es (a .0))), apart-cut ds es fs f g (a .1))
+
+pub apart-receiving : (qs : List (List ℕ)) → Apart (flat qs) → Apart (receiving qs)
+apart-receiving [] a = tt
+apart-receiving (t ∷ []) a = tt
+apart-receiving (t ∷ r ∷ qs) a =
+    apart-cut r (flat qs) (receiving qs) (λ P. receiving-all P qs) (apart-receiving qs) (apart-right t (r ++ flat qs) a)
+
+pub apart-receiving-behind : (ds : List ℕ) (qs : List (List ℕ)) → Apart (ds ++ flat qs) → Apart (ds ++ receiving qs)
+apart-receiving-behind ds qs a = apart-cut ds (flat qs) (receiving qs) (λ P. receiving-all P qs) (apart-receiving qs) a
 
 -- what is apart is not the same
 pub apart-none : (cs es : List ℕ) → Apart (cs ++ es) → All (λ d. None d cs) es

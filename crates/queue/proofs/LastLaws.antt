@@ -1,0 +1,91 @@
+-- The last descriptor of a queue, as it is computed for an append. Assumes nothing.
+--     sole-length              a queue has no more descriptors than there are words in use
+--     last-from                the walk along word 0 comes to the last descriptor
+--     last-yes, last-is        word k is word 0 of the last descriptor exactly where the queue ends in k
+use Prim.Native.Nat.{ℕ, zero, suc, _+_, _≤_, _<_}
+use mathlib.Core.Path.{_≡_, refl, ap, _∙_, sym, subst}
+use mathlib.Core.Bool.{Bool, true, false}
+use mathlib.Core.List.{List, [], _∷_, _++_}
+use mathlib.Core.Logic.{_≢_}
+use native.Mathlib.Omega.{arith}
+use lib.ListN.{length, length-append}
+use lib.Dec.{eqb}
+use borrow.Author.Tests.{eq-eqb, eqb-true}
+use Rattle.layout.specs.Choice.{pick}
+use Rattle.layout.specs.Layout.{goodPtr, wordOf, addr, descWords}
+use Rattle.layout.proofs.ChoiceLaws.{clash}
+use Rattle.layout.proofs.PointerLaws.{goodPtr-addr, wordOf-addr, goodPtr-zero}
+use Rattle.words.specs.WordSet.{dropFour, inUse}
+use Rattle.words.proofs.SetLaws.{inUse-falls, inUse-le, has-true}
+use Rattle.guard.specs.Judges.{lastFrom, isLast}
+use Rattle.queue.specs.Queue.{start, Linked, Sole}
+use Rattle.queue.proofs.LinkLaws.{start-snoc}
+use Rattle.queue.proofs.SoleLaws.{sole-has, sole-drop}
+
+pub sole-length : {u : List ℕ} (ds rs : List ℕ) → Sole u (ds ++ rs) → length ds ≤ inUse u
+sole-length [] rs s = omega arith
+sole-length {u} (d ∷ ds) rs s =
+    let h = sole-length ds rs (sole-drop d (ds ++ rs) s) in
+    let f = inUse-falls u d (has-true u d (sole-has d (ds ++ rs) d s (omega arith) (omega arith))) in
+    omega arith
+
+-- where a queue that is not empty begins is good
+start-good : (w : ℕ → ℕ) (xs : List ℕ) (d : ℕ) → Linked w (xs ++ d ∷ []) → goodPtr (start (xs ++ d ∷ [])) ≡ true
+start-good w [] d l = goodPtr-addr d (l .0)
+start-good w (x ∷ xs) d l = goodPtr-addr x (l .0)
+
+pub last-from : (w : ℕ → ℕ) (n : ℕ) (xs : List ℕ) (d : ℕ) → Linked w (xs ++ d ∷ []) → length xs ≤ n → lastFrom w n (start (xs ++ d ∷ [])) ≡ addr d
+last-from w zero [] d l h = refl
+last-from w (suc n) [] d l h = rw (wordOf-addr d, l .1, goodPtr-zero) refl
+last-from w zero (x ∷ xs) d l h = absurd (omega arith)
+last-from w (suc n) (x ∷ xs) d l h =
+    rw (wordOf-addr x, l .1, start-good w xs d (l .2)) (last-from w n xs d (l .2) (omega arith))
+
+few : {u : List ℕ} (xs : List ℕ) (d : ℕ) (rs : List ℕ) → Sole u ((xs ++ d ∷ []) ++ rs) → length xs ≤ descWords
+few {u} xs d rs s =
+    let h = sole-length (xs ++ d ∷ []) rs s in
+    let g = inUse-le u in
+    let l = s .size in
+    let a = length-append xs (d ∷ []) in
+    omega arith
+
+-- the test, for any number of steps that is enough
+abbrev Test : (ℕ → ℕ) → ℕ → ℕ → ℕ → Type 0
+Test w n p k = pick (goodPtr p) (eqb (lastFrom w n p) (addr k)) false ≡ true
+
+test-is : (w : ℕ → ℕ) (n : ℕ) (xs : List ℕ) (k : ℕ) → Linked w (xs ++ k ∷ []) → length xs ≤ n → Test w n (start (xs ++ k ∷ [])) k
+test-is w n xs k l h = rw (start-good w xs k l, last-from w n xs k l h) (eq-eqb (addr k) (addr k) refl)
+
+test-yes : (w : ℕ → ℕ) (n : ℕ) (xs : List ℕ) (d k : ℕ) → Linked w (xs ++ d ∷ []) → length xs ≤ n → Test w n (start (xs ++ d ∷ [])) k → d ≡ k
+test-yes w n xs d k l h e =
+    let f : eqb (addr d) (addr k) ≡ true = rw (start-good w xs d l, last-from w n xs d l h) at e in
+    let g = eqb-true (addr d) (addr k) f in
+    omega arith
+
+pub last-is : {u : List ℕ} (w : ℕ → ℕ) (xs : List ℕ) (k : ℕ) (rs : List ℕ) → Linked w (xs ++ k ∷ []) → Sole u ((xs ++ k ∷ []) ++ rs)
+    → isLast w (start (xs ++ k ∷ [])) k ≡ true
+unfolding isLast
+last-is w xs k rs l s = test-is w descWords xs k l (few xs k rs s)
+
+-- a list that is not empty has a last
+pub record Snoc (q : List ℕ) : Type 0 where
+  pub front : List ℕ
+  pub last : ℕ
+  pub split : q ≡ front ++ last ∷ []
+
+pub snoc : (d : ℕ) (ds : List ℕ) → Snoc (d ∷ ds)
+snoc d [] = record { front = []; last = d; split = refl }
+snoc d (e ∷ ds) = let r = snoc e ds in record { front = d ∷ r .front; last = r .last; split = ap (λ (l : List ℕ). d ∷ l) (r .split) }
+
+pub last-yes : {u : List ℕ} (w : ℕ → ℕ) (q rs : List ℕ) (k : ℕ) → Linked w q → Sole u (q ++ rs) → isLast w (start q) k ≡ true
+    → (xs : List ℕ) × (q ≡ xs ++ k ∷ [])
+unfolding isLast goodPtr
+last-yes w [] rs k l s e = clash e refl
+last-yes {u} w (d ∷ ds) rs k l s e =
+    let r = snoc d ds in
+    (r .front, r .split ∙ ap (λ (y : ℕ). r .front ++ y ∷ []) (same (d ∷ ds) (r .front) (r .last) (r .split) l s e))
+  where
+    same : (q xs : List ℕ) (y : ℕ) → q ≡ xs ++ y ∷ [] → Linked w q → Sole u (q ++ rs) → Test w descWords (start q) k → y ≡ k
+    same q xs y p l s =
+        subst (λ (z : List ℕ). Linked w z → Sole u (z ++ rs) → Test w descWords (start z) k → y ≡ k) (sym p)
+        (λ l1 s1 e1. test-yes w descWords xs y k l1 (few xs y rs s1) e1) l s
