@@ -33,7 +33,7 @@ use Rattle.guard.specs.Judges.{placeOf}
 use Rattle.queue.specs.Queue.{start, All, ownAt, behindAt, Fresh}
 use Rattle.queue.proofs.LinkLaws.{all-right, all-map}
 use Rattle.queue.proofs.KeptLaws.{Live}
-use Rattle.queue.proofs.StoreLaws.{Same, Same3, same-same3}
+use Rattle.queue.proofs.StoreLaws.{Same, Same3, sames-three}
 use Rattle.queue.proofs.RecordLaws.{Fits, RecordFits}
 
 -- ---- the rules read back
@@ -195,7 +195,7 @@ fresh-same3 w v pl [] a f = f
 fresh-same3 w v pl (d ∷ ds) a f = rw (a .0 .0, a .0 .1, a .0 .2) (f .0, fresh-same3 w v (behindAt w pl d) ds (a .1) (f .1))
 
 pub fresh-same : (w v : ℕ → ℕ) (pl : Place) (ds : List ℕ) → All (Same w v) ds → Fresh w pl ds → Fresh v pl ds
-fresh-same w v pl ds a f = fresh-same3 w v pl ds (all-map (Same w v) (Same3 w v) (same-same3 w v) ds a) f
+fresh-same w v pl ds a f = fresh-same3 w v pl ds (sames-three w v ds a) f
 
 pub fresh-join : (w : ℕ → ℕ) (pl : Place) (ds es : List ℕ) → Fresh w pl ds → Fresh w (placeOf (sideAt pl)) es → Fresh w pl (ds ++ es)
 fresh-join w pl [] es f g = rw (ends-place pl f) g

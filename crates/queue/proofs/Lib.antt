@@ -8,3 +8,4 @@ pub mod FreshLaws
 pub mod JudgedLaws
 pub mod SoundLaws
 pub mod LastLaws
+pub mod GrowLaws

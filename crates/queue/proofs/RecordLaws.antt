@@ -8,7 +8,8 @@
 --     sole-drop-all            dropped descriptors leave exactly the others in use
 --     drop-size, drop-zero, drop-other, drop-entry   the lengths then: those dropped are 0, all others as they were
 --     recorded-drop            so the recorded lengths are right for what is left of the receive queues
---     recorded-empty, recorded-shift, recorded-swap   none recorded for no descriptor; the order does not matter
+--     recorded-empty           none is recorded for no descriptor
+--     recorded-perm, recorded-shift   the order does not matter
 --     take-words, sole-add-all the words in use with descriptors taken over free words
 --     take-size, take-other, take-there   the lengths then: as recorded there, all others as they were
 --     gain side ds rx          the receive descriptors, once ds are taken on a side
@@ -199,19 +200,12 @@ all-back : (P : ℕ → Type 0) (d : ℕ) (xs ys : List ℕ) → P d × All P (x
 all-back P d [] ys a = a
 all-back P d (x ∷ xs) ys a = (a .1 .0, all-back P d xs ys (a .0, a .1 .1))
 
-pub recorded-shift : {l : List ℕ} (d : ℕ) (xs ys : List ℕ) → Recorded l (xs ++ d ∷ ys) → Recorded l (d ∷ xs ++ ys)
-recorded-shift d xs ys r = record {
-  size = r .size;
-  there = all-mid _ d xs ys (r .there);
-  elsewhere = λ k n. r .elsewhere k (all-back (λ e. k ≢ e) d xs ys n);
-}
+pub recorded-perm : {l xs ys : List ℕ} → ((P : ℕ → Type 0) → All P xs → All P ys) → ((P : ℕ → Type 0) → All P ys → All P xs) → Recorded l xs → Recorded l ys
+recorded-perm {l} f g r =
+    record { size = r .size; there = f (λ d. Fits (getD l d 0)) (r .there); elsewhere = λ k n. r .elsewhere k (g (λ d. k ≢ d) n) }
 
-pub recorded-swap : {l : List ℕ} (xs ys : List ℕ) → Recorded l (xs ++ ys) → Recorded l (ys ++ xs)
-recorded-swap xs ys r = record {
-  size = r .size;
-  there = all-join _ ys xs (all-right _ xs ys (r .there)) (all-left _ xs ys (r .there));
-  elsewhere = λ k n. r .elsewhere k (all-join (λ e. k ≢ e) xs ys (all-right (λ e. k ≢ e) ys xs n) (all-left (λ e. k ≢ e) ys xs n));
-}
+pub recorded-shift : {l : List ℕ} (d : ℕ) (xs ys : List ℕ) → Recorded l (xs ++ d ∷ ys) → Recorded l (d ∷ xs ++ ys)
+recorded-shift d xs ys r = recorded-perm {xs = xs ++ d ∷ ys} {ys = d ∷ xs ++ ys} (λ P a. all-mid P d xs ys a) (λ P a. all-back P d xs ys a) r
 
 -- ---- the recorded lengths, once descriptors are taken
 

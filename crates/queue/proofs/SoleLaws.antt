@@ -2,6 +2,7 @@
 --     within-in, within-out, within-true, within-false   word k is one of the four of d
 --     count-append              how many have word k, in parts
 --     once-apart, apart-once    none twice is: each pair apart
+--     apart-perm                so the order does not matter
 --     sole-apart, sole-perm, sole-unique   so for the words in use; the order does not matter; they are determined
 --     count-outside, sole-outside   a word that is not in use is outside every descriptor
 --     sole-has, sole-small      a descriptor's words are in use
@@ -150,6 +151,9 @@ apart-once (d ∷ ds) a k = at (within d k) refl (apart-once ds (a .1) k)
     at : (b : Bool) → within d k ≡ b → count ds k ≤ 1 → pick b 1 0 + count ds k ≤ 1
     at true e f = let z = outside-count k ds (clear e ds (a .0)) in omega arith
     at false e f = omega arith
+
+pub apart-perm : (ds es : List ℕ) → ((k : ℕ) → count ds k ≡ count es k) → Apart ds → Apart es
+apart-perm ds es p a = once-apart es (λ k. rw (p k) at (apart-once ds a k))
 
 -- ---- the words in use
 

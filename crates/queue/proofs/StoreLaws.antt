@@ -30,6 +30,9 @@ Same3 w v d = (v (d + 1) ≡ w (d + 1)) × (v (d + 2) ≡ w (d + 2)) × (v (d + 
 pub same-same3 : (w v : ℕ → ℕ) (d : ℕ) → Same w v d → Same3 w v d
 same-same3 w v d s = (s .1, s .2, s .3)
 
+pub sames-three : (w v : ℕ → ℕ) (ds : List ℕ) → All (Same w v) ds → All (Same3 w v) ds
+sames-three w v ds a = all-map (Same w v) (Same3 w v) (same-same3 w v) ds a
+
 pub same-nexts : (w v : ℕ → ℕ) (ds : List ℕ) → All (Same w v) ds → All (λ y. v y ≡ w y) ds
 same-nexts w v ds a = all-map (Same w v) (λ y. v y ≡ w y) (λ x s. s .0) ds a
 
