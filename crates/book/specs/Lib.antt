@@ -2,3 +2,4 @@ pub mod Sound
 pub mod HandOver
 pub mod Release
 pub mod World
+pub mod Hops

@@ -19,13 +19,13 @@ use Rattle.book.specs.Sound.{walkStep, walkFrom, walkAll, firstStep, firstsFrom
 use Rattle.book.specs.HandOver.{takeOne, dropOne, takeStep, takenFrom}
 use Rattle.book.specs.Release.{plan, releaseStep, releasedFrom, releasedAll, releasedFlags}
 use Rattle.book.specs.World.{fitParts, unfit, soundWorld, release}
-use Rattle.guard.specs.Judges.{judgeHead, judgeRegister, isLast, judgeAppend, judgeLast, judgeWord, judgeClass, judge}
+use Rattle.guard.specs.Judges.{judgeHead, judgeRegister, lastOf, isLast, judgeAppend, judgeLast, judgeWord, judgeClass, judge}
 use Rattle.guard.specs.Guard.{admitted, guestWrite, inReception, judgeKind, kindChange}
 use Rattle.controller.specs.Transmit.{fetch, readBurst, close, markEoq, octetsOf, clearOwn, finish, sendStep}
 use Rattle.controller.specs.Controller.{transmitStep, receiveStep, tearMark, tearStep, resetStep, stepOf, frameOf, registerWrite, unguardedWrite, freshController}
 use Rattle.machine.specs.Machine.{applyWrite, applyKind, applyFrame, applyStep, freshMachine}
-use Rattle.replay.specs.Records.{decodeRam, decodeLater, decode}
-use Rattle.replay.specs.Lines.{decimal, hex8, lineOf, sentLine, badLine}
+use Rattle.records.specs.Records.{decodeRam, decodeLater, decode}
+use Rattle.records.specs.Lines.{decimal, hex8, lineOf, sentLine, badLine}
 use Rattle.replay.specs.Replay.{engineOf, recordOf, replay}
 
 -- "Input RM 4 with kinds 0,1,2,3; GW 4A100A04, 0; KC 1, 2"
@@ -37,5 +37,5 @@ abbrev pub exampleOut : List ℕ
 exampleOut = 87 ∷ 32 ∷ 52 ∷ 65 ∷ 49 ∷ 48 ∷ 48 ∷ 65 ∷ 48 ∷ 52 ∷ 32 ∷ 53 ∷ 10 ∷ 75 ∷ 32 ∷ 49 ∷ 32 ∷ 48 ∷ 10 ∷ 115 ∷ 101 ∷ 110 ∷ 116 ∷ 32 ∷ 48 ∷ 32 ∷ 114 ∷ 101 ∷ 99 ∷ 101 ∷ 105 ∷ 118 ∷ 101 ∷ 100 ∷ 32 ∷ 48 ∷ 10 ∷ []
 
 pub example : replay exampleIn ≡ exampleOut
-unfolding run goodPtr wordOf ruleOf classOf classAt wordAt putWord word put emptySet has freeAt addFour dropFour freeCount inUse view fitKinds roomFor roomOf touches sop eop owner eoq td packetLength lengthOf offsetOf firstByte flagsFault lengthFault endFault sumFault behind nextFault ownFault fetchFault setBit clearBit putLength marked lastMarked sideOf awaiting anyTorn headFault ackFault teardownFault resetFault zeroFault registerFault headWritten ackWritten written blockFault descFault judgeStep chainOf walkStep walkFrom walkAll firstStep firstsFrom sound takeOne dropOne takeStep takenFrom plan releaseStep releasedFrom releasedAll releasedFlags fitParts unfit soundWorld release judgeHead judgeRegister isLast judgeAppend judgeLast judgeWord judgeClass judge admitted guestWrite inReception judgeKind kindChange fetch readBurst close markEoq octetsOf clearOwn finish sendStep transmitStep receiveStep tearMark tearStep resetStep stepOf frameOf registerWrite unguardedWrite freshController applyWrite applyKind applyFrame applyStep freshMachine decodeRam decodeLater decode decimal hex8 lineOf sentLine badLine engineOf recordOf replay
+unfolding run goodPtr wordOf ruleOf classOf classAt wordAt putWord word put emptySet has freeAt addFour dropFour freeCount inUse view fitKinds roomFor roomOf touches sop eop owner eoq td packetLength lengthOf offsetOf firstByte flagsFault lengthFault endFault sumFault behind nextFault ownFault fetchFault setBit clearBit putLength marked lastMarked sideOf awaiting anyTorn headFault ackFault teardownFault resetFault zeroFault registerFault headWritten ackWritten written blockFault descFault judgeStep chainOf walkStep walkFrom walkAll firstStep firstsFrom sound takeOne dropOne takeStep takenFrom plan releaseStep releasedFrom releasedAll releasedFlags fitParts unfit soundWorld release judgeHead judgeRegister lastOf isLast judgeAppend judgeLast judgeWord judgeClass judge admitted guestWrite inReception judgeKind kindChange fetch readBurst close markEoq octetsOf clearOwn finish sendStep transmitStep receiveStep tearMark tearStep resetStep stepOf frameOf registerWrite unguardedWrite freshController applyWrite applyKind applyFrame applyStep freshMachine decodeRam decodeLater decode decimal hex8 lineOf sentLine badLine engineOf recordOf replay
 example = refl

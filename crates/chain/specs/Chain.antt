@@ -4,6 +4,9 @@
 --     descFault kinds w pl d           14, 15, 16, 17 of the descriptor at word d, standing at place pl
 --     judgeStep kinds w                one descriptor: 12, 13 and the rest, then on to the next
 --     chainOf kinds w pl met p         the chain from pointer p: refusal number (0 for none), where it was found, words met
+--     placeOf side                     where a chain of that side begins
+--     verdictOf side kinds w met p     the same as the answer that is given: with 16, the block that bars the buffer
+--     numberOf v                       the refusal number of such an answer
 -- The place of a fault: for 12 the bad pointer itself, else the descriptor judged.
 -- w is descriptor memory as a function of the word number. Laws: proofs/ChainLaws.antt. Assumes nothing: these are definitions.
 use Prim.Native.Nat.{ℕ, _+_}
@@ -14,11 +17,17 @@ use Rattle.layout.specs.Choice.{pick, orElse}
 use Rattle.layout.specs.Run.{Next, go, stop, run}
 use Rattle.layout.specs.Layout.{goodPtr, wordOf}
 use Rattle.layout.specs.declared.Side.{Side}
+use Rattle.layout.specs.declared.Side.the-variants.{Transmit, Receive}
 use Rattle.words.specs.WordSet.{freeAt, addFour, freeCount}
 use Rattle.blocks.specs.Room.{roomOf, isFree}
+use Rattle.blocks.specs.declared.Room.{Room}
+use Rattle.blocks.specs.declared.Room.the-variants.{Free}
 use Rattle.descriptor.specs.Fields.{lengthOf, firstByte}
 use Rattle.descriptor.specs.Rules.{sideAt, flagsFault, lengthFault, sumFault, behind, nextFault}
 use Rattle.descriptor.specs.declared.Place.{Place}
+use Rattle.descriptor.specs.declared.Place.the-variants.{Start, Buffer}
+use Rattle.chain.specs.declared.Verdict.{Verdict}
+use Rattle.chain.specs.declared.Verdict.the-variants.{Good, Bad}
 
 -- transmit: "16 unless every block touched is Linux's"; receive: "16 unless every block touched is kind 1"
 unfoldable pub blockFault : List ℕ → Side → ℕ → ℕ → ℕ → ℕ
@@ -61,3 +70,31 @@ judgeStep kinds w s =
 -- the words not yet met fall at each descriptor
 unfoldable pub chainOf : List ℕ → (ℕ → ℕ) → Place → List ℕ → ℕ → JOut
 chainOf kinds w pl met p = run (judgeStep kinds w) (λ t. (0, 0, t .1)) (λ t. freeCount (t .1)) (pl, met, p)
+
+abbrev pub placeOf : Side → Place
+placeOf Transmit = Start
+placeOf Receive = Buffer
+
+-- what the blocks say to the buffer of the descriptor at word d
+unfoldable pub bufferRoom : List ℕ → (ℕ → ℕ) → Side → ℕ → Room
+bufferRoom kinds w side d =
+    roomOf side kinds (firstByte side (w (d + 1)) (w (d + 2)) (w (d + 3))) (lengthOf side (w (d + 2)))
+
+-- the answer: good where no rule is broken, else the number, its place, and with 16 what the blocks say there
+abbrev pub said : List ℕ → (ℕ → ℕ) → Side → JOut → Verdict
+said kinds w side j =
+    pick (eqb (j .0) 0) Good
+    (Bad (record {
+      number = j .0;
+      place = j .1;
+      room = pick (eqb (j .0) 16) (bufferRoom kinds w side (wordOf (j .1))) Free;
+    }))
+
+unfoldable pub verdictOf : Side → List ℕ → (ℕ → ℕ) → List ℕ → ℕ → Verdict × List ℕ
+verdictOf side kinds w met p =
+    let j = chainOf kinds w (placeOf side) met p in
+    (said kinds w side j, j .2)
+
+abbrev pub numberOf : Verdict → ℕ
+numberOf Good = 0
+numberOf (Bad f) = f .number

@@ -1,12 +1,14 @@
 -- The controller record and every way it changes. Document 01, "The controller's steps".
 --     Moved                        the record and descriptor memory afterwards, the burst made, the answer
---     still, undefine              nothing moves; undefined now and later (22)
+--     outcome r m                  the same, of what a step handed back and the memory that it left
+--     answer, undefine             nothing but an answer; undefined now and later (22)
 --     transmitStep, receiveStep    one step of an engine
 --     quiet c q                    engine q is "idle, waiting or, transmit only, at 1 of a new packet"
 --     tearStep q                   teardown steps 1 to 3 of a queue
 --     resetStep                    the reset
---     stepOf e                     the step of any engine
+--     moveOf e, stepOf e           the step of any engine; the same, where memory and record allow one
 --     frameOf n                    a frame of n bytes arrives: 23, 24, or it is taken
+--     arrival r                    the same, of what was handed back
 --     unguardedWrite a v           a guest write that no guard has judged
 --     freshController              "A fresh machine has .. zero registers, .. idle engines, and awaits all four zeros"
 -- Assumes nothing: these are definitions.
@@ -35,6 +37,8 @@ use Rattle.controller.specs.declared.Sends.the-variants as Sends
 use Rattle.controller.specs.declared.Takes.{Takes}
 use Rattle.controller.specs.declared.Takes.the-variants as Takes
 use Rattle.controller.specs.declared.Controller.{Controller}
+use Rattle.controller.specs.declared.Stepped.{Stepped}
+use Rattle.controller.specs.declared.Arrived.{Arrived}
 use Rattle.controller.specs.declared.Engine.{Engine}
 use Rattle.controller.specs.declared.Engine.the-variants.{Reset, Transmit, Receive, TearTransmit, TearReceive}
 use Rattle.controller.specs.Transmit.{sendStep}
@@ -118,6 +122,10 @@ pub record Moved : Type 0 where
   pub mem : List ℕ
   pub burst : Burst
   pub number : ℕ
+
+-- what a step handed back, with the memory that it left
+abbrev pub outcome : Stepped → List ℕ → Moved
+outcome r m = record { ctl = r .ctl; mem = m; burst = r .burst; number = r .number }
 
 -- an answer, and nothing else; "a step that cannot move changes nothing" answers 0
 abbrev pub answer : ℕ → Controller → List ℕ → Moved
@@ -222,12 +230,15 @@ resetStep c m =
 abbrev pub unlessUndefined : Controller → List ℕ → Moved → Moved
 unlessUndefined c m x = pick (eqb (length m) descBytes) (pick (c .undefined) (answer 22 c m) x) (answer 1 c m)
 
+abbrev pub moveOf : Engine → Controller → List ℕ → Moved
+moveOf Reset c m = resetStep c m
+moveOf Transmit c m = transmitStep c m
+moveOf Receive c m = receiveStep c m
+moveOf TearTransmit c m = tearStep 0 c m
+moveOf TearReceive c m = tearStep 1 c m
+
 unfoldable pub stepOf : Engine → Controller → List ℕ → Moved
-stepOf Reset c m = unlessUndefined c m (resetStep c m)
-stepOf Transmit c m = unlessUndefined c m (transmitStep c m)
-stepOf Receive c m = unlessUndefined c m (receiveStep c m)
-stepOf TearTransmit c m = unlessUndefined c m (tearStep 0 c m)
-stepOf TearReceive c m = unlessUndefined c m (tearStep 1 c m)
+stepOf e c m = unlessUndefined c m (moveOf e c m)
 
 -- ---- a frame: "taken (go to 1) when HDP is nonzero, the engine waits, and no reset or receive teardown is pending; else 24"
 abbrev pub waits : Receiving → Bool
@@ -246,6 +257,10 @@ pub record Framed : Type 0 where
 
 abbrev pub framed : ℕ → Controller → Framed
 framed n c = record { ctl = c; number = n }
+
+-- the same, of what was handed back
+abbrev pub arrival : Arrived → Framed
+arrival r = framed (r .number) (r .ctl)
 
 unfoldable pub frameOf : ℕ → Controller → Framed
 frameOf n c =

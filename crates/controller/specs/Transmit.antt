@@ -36,17 +36,20 @@ abbrev pub toPhase : Sending → ℕ → ℕ → Sends
 toPhase state hdp cp = Went (record { state = state; hdp = hdp; cp = cp; burst = Quiet; octets = 0 })
 
 -- "(1) fetch, latching range, next, flags, and at SOP the packet length; undefined on 12, 14, 15, 17"
-abbrev pub latched : (ℕ → ℕ) → Place → ℕ → ℕ → Sending
-latched w pl sop d =
+abbrev pub latch : Place → ℕ → ℕ → ℕ → ℕ → ℕ → Sending
+latch pl sop x0 x1 x2 x3 =
     Moving (record {
       sop = sop;
-      word3 = sopAt pl (w (d + 3));
-      sum = sumAt pl (w (d + 2));
-      at = firstByte Transmit (w (d + 1)) (w (d + 2)) (w (d + 3));
-      left = lengthOf Transmit (w (d + 2));
-      next = w d;
-      eop = eop (w (d + 3));
+      word3 = sopAt pl x3;
+      sum = sumAt pl x2;
+      at = firstByte Transmit x1 x2 x3;
+      left = lengthOf Transmit x2;
+      next = x0;
+      eop = eop x3;
     })
+
+abbrev pub latched : (ℕ → ℕ) → Place → ℕ → ℕ → Sending
+latched w pl sop d = latch pl sop (w d) (w (d + 1)) (w (d + 2)) (w (d + 3))
 
 unfoldable pub fetch : (ℕ → ℕ) → Place → ℕ → ℕ → ℕ → Sends
 fetch w pl sop hdp cp =

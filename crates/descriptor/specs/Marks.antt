@@ -6,7 +6,7 @@
 --     changed k w, Fits k        a word with the mark k, and the bound of the length that such a mark carries
 --     marked f d m               descriptor memory m with word 3 of the descriptor at word d changed by f
 --     lastMarked                 receive step 4 on both words that it writes
--- "other bits stay in 4 and 5". Laws: proofs/FlagLaws.antt. Assumes nothing: these are definitions.
+-- "other bits stay in 4 and 5". Laws: proofs/BitLaws.antt, FlagLaws.antt, MarkLaws.antt. Assumes nothing: these are definitions.
 use Prim.Native.Nat.{ℕ, _+_, _-_, _%_, _^_, _<_}
 use mathlib.Core.Bool.{Bool, true, false}
 use mathlib.Core.List.{List}

@@ -76,6 +76,7 @@ pub fn descriptor_at(m: &[u8], d: usize) -> Descriptor
     }
 }
 
+// The flags and the packet length of word 3.
 pub fn has_sop(x3: u32) -> bool
     ensures { λ r. ⌜ r ≡ sop x3 ⌝ }
 {
@@ -153,7 +154,7 @@ pub fn side_at(pl: Place) -> Side
     }
 }
 
-// 14 for EOQ and TD, which stand on no descriptor that is handed over.
+// Rule 14 for EOQ and TD, which stand on no descriptor that is handed over.
 fn end_flags_fault(x3: u32) -> u8
     ensures { λ r. ⌜ r ≡ endFlagsFault x3 ⌝ }
 {
@@ -166,6 +167,7 @@ fn end_flags_fault(x3: u32) -> u8
     0
 }
 
+// Rule 14 where a packet starts: SOP, and OWNER with it.
 fn start_flags(x3: u32) -> u8
     ensures { λ r. ⌜ r ≡ flagsFault Place.Start x3 ⌝ }
 {
@@ -178,6 +180,7 @@ fn start_flags(x3: u32) -> u8
     end_flags_fault(x3)
 }
 
+// Rule 14 inside a packet: no SOP before its EOP.
 fn middle_flags(s: u32, n: u32, x3: u32) -> u8
     ensures { λ r. ⌜ r ≡ flagsFault (Place.Middle s n) x3 ⌝ }
 {
@@ -187,6 +190,7 @@ fn middle_flags(s: u32, n: u32, x3: u32) -> u8
     end_flags_fault(x3)
 }
 
+// Rule 14 of a receive buffer, where the controller has set nothing yet.
 fn buffer_flags(x3: u32) -> u8
     ensures { λ r. ⌜ r ≡ flagsFault Place.Buffer x3 ⌝ }
 {
@@ -202,7 +206,7 @@ fn buffer_flags(x3: u32) -> u8
     end_flags_fault(x3)
 }
 
-// 14.
+// Rule 14: flags.
 pub fn flags_fault(pl: Place, x3: u32) -> u8
     ensures { λ r. ⌜ r ≡ flagsFault pl x3 ⌝ }
 {
@@ -223,7 +227,7 @@ fn is_offset_bad(side: Side, x2: u32) -> bool
     }
 }
 
-// 15.
+// Rule 15: length or offset. The last byte may be the last address.
 pub fn length_fault(side: Side, x1: u32, x2: u32, x3: u32) -> u8
     ensures { λ r. ⌜ r ≡ lengthFault side x1 x2 x3 ⌝ }
 {
@@ -274,7 +278,7 @@ pub fn sum_at(pl: Place, x2: u32) -> u32
     }
 }
 
-// 17 at the end of a packet.
+// Rule 17 at the end of a packet.
 pub fn end_fault(sop: u32, sum: u32) -> u8
     ensures { λ r. ⌜ r ≡ endFault sop sum ⌝ }
 {
@@ -284,7 +288,7 @@ pub fn end_fault(sop: u32, sum: u32) -> u8
     BAD_PACKET
 }
 
-// 17 at this descriptor, where it is the packet's last. On a receive buffer word and sum are both 0, and agree.
+// Rule 17 at this descriptor, where it is the packet's last. On a receive buffer word and sum are both 0, and agree.
 pub fn sum_fault(pl: Place, x2: u32, x3: u32) -> u8
     ensures { λ r. ⌜ r ≡ sumFault pl x2 x3 ⌝ }
 {
@@ -316,7 +320,7 @@ pub fn behind(pl: Place, x2: u32, x3: u32) -> Place
     }
 }
 
-// 17 where the chain ends inside a packet. pl is the place behind the descriptor.
+// Rule 17 where the chain ends inside a packet. pl is the place behind the descriptor.
 pub fn next_fault(pl: Place, x0: u32) -> u8
     ensures { λ r. ⌜ r ≡ nextFault pl x0 ⌝ }
 {
@@ -330,7 +334,7 @@ pub fn next_fault(pl: Place, x0: u32) -> u8
     }
 }
 
-// 14, then 15, then 17 at EOP.
+// The lowest number of a descriptor by itself: 14, then 15, then 17 at EOP.
 pub fn own_fault(pl: Place, x1: u32, x2: u32, x3: u32) -> u8
     ensures { λ r. ⌜ r ≡ ownFault pl x1 x2 x3 ⌝ }
 {

@@ -1,9 +1,8 @@
 -- The judges of a guest write, over a fit, sound and released world. Document 01, "Judging".
---     placeOf side                where a chain of that side begins
 --     judgeChain side p s         the chain from p, over the words in use
 --     judgeHead q v s             HDP of queue q
 --     judgeRegister n v s         any other register, by its class
---     lastFrom w n p, isLast      the last descriptor of a queue
+--     lastFrom w n p, lastOf, isLast   the last descriptor of a queue
 --     judgeAppend, judgeLast      an append, and which queue it is to
 --     judgeWord k v s             a word of descriptor memory
 --     judgeClass n v s            a register of class n
@@ -21,19 +20,13 @@ use Rattle.layout.specs.declared.Side.{Side}
 use Rattle.layout.specs.declared.Side.the-variants.{Transmit, Receive}
 use Rattle.words.specs.Word.{word, put}
 use Rattle.words.specs.WordSet.{has}
-use Rattle.descriptor.specs.declared.Place.{Place}
-use Rattle.descriptor.specs.declared.Place.the-variants.{Start, Buffer}
 use Rattle.registers.specs.Pending.{queues, sideOf, queueOf, awaiting, setHdp}
 use Rattle.registers.specs.Rules.{headFault, registerFault, headWritten, written}
-use Rattle.chain.specs.Chain.{JOut, chainOf}
+use Rattle.chain.specs.Chain.{JOut, placeOf, chainOf}
 use Rattle.book.specs.HandOver.{takenFrom}
 use Rattle.book.specs.World.{World, setMem, setHeads, setFlags, setRegs, headOf}
 use Rattle.guard.specs.declared.Effect.the-variants.{Plain, Started, Appended}
 use Rattle.guard.specs.Answers.{Outcome, accept, refuse}
-
-abbrev pub placeOf : Side → Place
-placeOf Transmit = Start
-placeOf Receive = Buffer
 
 -- "then the chain, 12 to 17": 13 is asked of the words in use too
 abbrev pub judgeChain : Side → ℕ → World → JOut
@@ -76,9 +69,13 @@ abbrev pub lastFrom : (ℕ → ℕ) → ℕ → ℕ → ℕ
 lastFrom w zero p = p
 lastFrom w (suc n) p = let r = lastFrom w n (w (wordOf p)) in pick (goodPtr (w (wordOf p))) r p
 
+-- a queue has fewer descriptors than there are words
+unfoldable pub lastOf : (ℕ → ℕ) → ℕ → ℕ
+lastOf w p = lastFrom w descWords p
+
 -- word k is word 0 of the last descriptor of the queue with that head
 unfoldable pub isLast : (ℕ → ℕ) → ℕ → ℕ → Bool
-isLast w head k = pick (goodPtr head) (eqb (lastFrom w descWords head) (addr k)) false
+isLast w head k = pick (goodPtr head) (eqb (lastOf w head) (addr k)) false
 
 -- "An append stores its word and adds words and lengths", "judged as a chain for that side"
 unfoldable pub judgeAppend : Side → ℕ → ℕ → World → Outcome

@@ -1,3 +1,4 @@
 pub mod Answers
 pub mod Judges
 pub mod Guard
+pub mod Rulings

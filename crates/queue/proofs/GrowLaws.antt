@@ -4,28 +4,24 @@
 --     linked-at, linked-put    one queue's links, taken out and put back
 --     sole-grow, recorded-grow words in use and recorded lengths of the queues, from those of the hand-over
 --     store-free               a store to a word that is not in use leaves every queue
---     Appended, appended       the store of an append: the queue goes on, and all that is left as it was
-use Prim.Native.Nat.{ℕ, zero, suc, _+_, _*_, _%_, _≤_, _<_, _^_}
-use mathlib.Core.Path.{_≡_, refl, ap, _∙_, sym}
-use mathlib.Core.Bool.{Bool, true, false}
-use mathlib.Core.List.{List, [], _∷_, _++_, append-assoc, append-nil}
-use mathlib.Core.Logic.{_⊎_, inl, inr, _≢_}
+--     Appended, appended       the store of an append: the queue goes on, and all that is left as it was; once for every queue
+use Prim.Native.Nat.{ℕ, suc, _+_, _%_, _≤_, _<_, _^_}
+use mathlib.Core.Path.{_≡_, refl, ap}
+use mathlib.Core.Bool.{false}
+use mathlib.Core.List.{List, [], _∷_, _++_}
+use mathlib.Core.Logic.{_≢_}
 use native.Mathlib.Omega.{arith}
 use lib.ListN.{length, set}
-use lib.Dec.{eqb}
-use borrow.Author.Tests.{eq-eqb, ne-eqb}
-use Rattle.layout.specs.Choice.{pick}
-use Rattle.layout.specs.Layout.{addr}
 use Rattle.layout.specs.declared.Side.{Side}
 use Rattle.layout.specs.declared.Side.the-variants.{Transmit, Receive}
 use Rattle.words.specs.Word.{word, put}
 use Rattle.words.specs.WordSet.{has}
 use Rattle.words.proofs.WordLaws.{word-put-same, word-put-other}
 use Rattle.registers.specs.Pending.{sideOf}
-use Rattle.queue.specs.Queue.{start, All, Linked, LinkedAll, Off, Apart, Outside, count, Sole, Recorded, flat, starts, receiving}
-use Rattle.queue.proofs.LinkLaws.{all-left, all-right, all-join, all-map, start-append, linked-small, linked-right, linked-same, linked-join}
+use Rattle.queue.specs.Queue.{start, All, Linked, LinkedAll, Off, Apart, Outside, Sole, Recorded, flat, starts, receiving}
+use Rattle.queue.proofs.LinkLaws.{all-left, all-right, all-join, all-map, start-append, linked-right, linked-same, linked-join}
 use Rattle.queue.proofs.SoleLaws.{count-append, flat-append, sole-perm, sole-outside, apart-perm, off-outside}
-use Rattle.queue.proofs.StoreLaws.{Same, Same3, sames-three, same-nexts, linked-all-same, stores-outside}
+use Rattle.queue.proofs.StoreLaws.{Same, Same3, sames-three, same-nexts, stores-outside}
 use Rattle.queue.proofs.RecordLaws.{gain, recorded-perm}
 
 -- ---- heads
@@ -112,39 +108,34 @@ pub start-lt : (w : ℕ → ℕ) (ds : List ℕ) → Linked w ds → start ds < 
 start-lt w [] l = omega arith
 start-lt w (d ∷ ds) l = let h = l .0 in omega arith
 
-pub record Appended (w v : ℕ → ℕ) (xs : List (List ℕ)) (cs : List ℕ) (k : ℕ) (ys : List (List ℕ)) (es : List ℕ) : Type 0 where
-  pub linked : LinkedAll v (xs ++ (cs ++ k ∷ es) ∷ ys)
-  pub old : All (Same3 w v) (flat (xs ++ (cs ++ k ∷ []) ∷ ys))
-  pub before : All (Same w v) (flat xs)
+-- the queue ends in k, es is what it grows by, os are the descriptors of all other queues
+pub record Appended (w v : ℕ → ℕ) (cs : List ℕ) (k : ℕ) (es os : List ℕ) : Type 0 where
+  pub linked : Linked v (cs ++ k ∷ es)
   pub front : All (Same w v) cs
-  pub behind : All (Same w v) (flat ys)
+  pub last : Same3 w v k
+  pub old : All (Same3 w v) (cs ++ k ∷ [])
+  pub others : All (Same w v) os
   pub new : All (Same w v) es
 
-pub appended : (m : List ℕ) (xs : List (List ℕ)) (cs : List ℕ) (k : ℕ) (ys : List (List ℕ)) (es : List ℕ) → length m ≡ 8192
-    → LinkedAll (word m) (xs ++ (cs ++ k ∷ []) ∷ ys) → Linked (word m) es → Apart (es ++ flat (xs ++ (cs ++ k ∷ []) ∷ ys))
-    → Appended (word m) (word (put m k (start es))) xs cs k ys es
-appended m xs cs k ys es h l n a =
+pub appended : (m : List ℕ) (cs : List ℕ) (k : ℕ) (es os : List ℕ) → length m ≡ 8192 → Linked (word m) (cs ++ k ∷ []) → Linked (word m) es
+    → Apart (es ++ ((cs ++ k ∷ []) ++ os)) → Appended (word m) (word (put m k (start es))) cs k es os
+appended m cs k es os h l n a =
     let w = word m in
     let v = word (put m k (start es)) in
-    let rest = es ++ (flat xs ++ (cs ++ flat ys)) in
-    let p : Apart (k ∷ rest) = apart-perm (es ++ flat (xs ++ (cs ++ k ∷ []) ∷ ys)) (k ∷ rest) (λ j. simp (flat-append, count-append) (omega arith)) a in
+    let rest = es ++ (cs ++ os) in
+    let p : Apart (k ∷ rest) = apart-perm (es ++ ((cs ++ k ∷ []) ++ os)) (k ∷ rest) (λ j. simp count-append (omega arith)) a in
     let fr : All (Same w v) rest = stores-outside m k (start es) rest (all-map (Off k) (Outside k) (off-outside k k (omega arith) (omega arith)) rest (p .0)) in
-    let se = all-left (Same w v) es _ fr in
-    let f1 = all-right (Same w v) es _ fr in
-    let sx = all-left (Same w v) (flat xs) _ f1 in
-    let f2 = all-right (Same w v) (flat xs) _ f1 in
-    let sc = all-left (Same w v) cs _ f2 in
-    let sy = all-right (Same w v) cs _ f2 in
-    let o = linked-at w xs (cs ++ k ∷ []) ys l in
-    let b : k ≤ 2044 = linked-right w cs (k ∷ []) (o .1) .0 in
+    let se = all-left (Same w v) es (cs ++ os) fr in
+    let f1 = all-right (Same w v) es (cs ++ os) fr in
+    let sc = all-left (Same w v) cs os f1 in
+    let b : k ≤ 2044 = linked-right w cs (k ∷ []) l .0 in
     let at : v k ≡ start es = word-put-same m k (start es) h (omega arith) (start-lt w es n) in
     let sk : Same3 w v k = (word-put-other m k (start es) (k + 1) (omega arith), word-put-other m k (start es) (k + 2) (omega arith), word-put-other m k (start es) (k + 3) (omega arith)) in
     record {
-      linked = linked-put v xs (cs ++ k ∷ es) ys (linked-all-same w v xs sx (o .0))
-          (linked-join w v cs k es (o .1) (same-nexts w v cs sc) at (linked-same w v es (same-nexts w v es se) n)) (linked-all-same w v ys sy (o .2));
-      old = rw (flat-append xs ((cs ++ k ∷ []) ∷ ys)) (all-join _ (flat xs) _ (sames-three w v (flat xs) sx) (all-join _ (cs ++ k ∷ []) (flat ys) (all-join _ cs (k ∷ []) (sames-three w v cs sc) (sk, tt)) (sames-three w v (flat ys) sy)));
-      before = sx;
+      linked = linked-join w v cs k es l (same-nexts w v cs sc) at (linked-same w v es (same-nexts w v es se) n);
       front = sc;
-      behind = sy;
+      last = sk;
+      old = all-join (Same3 w v) cs (k ∷ []) (sames-three w v cs sc) (sk, tt);
+      others = all-right (Same w v) cs os f1;
       new = se;
     }

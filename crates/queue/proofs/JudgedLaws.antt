@@ -1,18 +1,20 @@
 -- A chain that is judged 0, and its hand-over: for both sides at once. Assumes nothing.
+--     Passed, fault-passed     a descriptor without fault: its own rules, its room, its next
+--     chain-eq, taken-eq       one step of each walk
 --     Judged, judged-list      the number 0 gives a list of descriptors: linked, over free words, fresh, with room
 --     taken-list               the hand-over takes exactly these
---     Taken, judged-taken      then the words in use and the recorded lengths are those of the queues and of these
-use Prim.Native.Nat.{ℕ, zero, suc, _+_, _≤_, _<_}
+--     Taken, list-taken, judged-taken      then the words in use and the recorded lengths are those of the queues and of these
+use Prim.Native.Nat.{ℕ, zero, suc, _+_, _<_}
 use mathlib.Core.Path.{_≡_, refl, ap, _∙_, sym}
 use mathlib.Core.Bool.{Bool, true, false}
 use mathlib.Core.List.{List, [], _∷_, _++_}
-use mathlib.Core.Logic.{_⊎_, inl, inr, _≢_}
+use mathlib.Core.Logic.{_≢_}
 use native.Mathlib.Omega.{arith}
-use lib.ListN.{length, getD}
+use lib.ListN.{getD}
 use lib.Dec.{eqb}
 use borrow.Author.Tests.{eqb-true, eqb-false}
-use Rattle.layout.specs.Choice.{pick, orElse}
-use Rattle.layout.specs.Run.{Next, go, stop, after, run}
+use Rattle.layout.specs.Choice.{pick}
+use Rattle.layout.specs.Run.{go, stop, after}
 use Rattle.layout.specs.Layout.{goodPtr, wordOf, addr}
 use Rattle.layout.specs.declared.Side.{Side}
 use Rattle.layout.proofs.ChoiceLaws.{want, orElse-zero}
@@ -24,15 +26,18 @@ use Rattle.blocks.specs.Room.{roomOf, isFree}
 use Rattle.blocks.specs.declared.Room.{Room}
 use Rattle.blocks.specs.declared.Room.the-variants.{Free, Barred, Outside}
 use Rattle.descriptor.specs.Fields.{lengthOf, firstByte}
-use Rattle.descriptor.specs.Rules.{sideAt, flagsFault, lengthFault, sumFault, behind, endsAt, nextFault}
+use Rattle.descriptor.specs.Rules.{sideAt, flagsFault, lengthFault, sumFault, endsAt, nextFault}
 use Rattle.descriptor.specs.declared.Place.{Place}
-use Rattle.chain.specs.Chain.{blockFault, descFault, JSt, JOut, pastDesc, judgeStep, chainOf}
+use Rattle.chain.specs.Chain.{blockFault, descFault, JSt, JOut, judgeStep, chainOf}
 use Rattle.book.specs.HandOver.{Uses, recordOf, takeOne, takeStep, takenFrom}
-use Rattle.queue.specs.Queue.{start, All, Linked, Off, Apart, Sole, Recorded, flat, receiving, Unmet, addAll, takeAll, ownAt, behindAt, Fresh, RoomAt, Roomy}
+use Rattle.book.proofs.HandOverLaws.{takeStep-falls}
+use Rattle.chain.proofs.ChainLaws.{judgeStep-falls}
+use Rattle.descriptor.proofs.RuleLaws.{sideAt-behind, ownFault-pass}
+use Rattle.queue.specs.Queue.{start, All, Linked, Sole, Recorded, flat, receiving, Unmet, addAll, takeAll, ownAt, behindAt, Fresh, RoomAt, Roomy}
 use Rattle.queue.proofs.LinkLaws.{linked-small}
 use Rattle.queue.proofs.SoleLaws.{sole-apart, apart-left}
 use Rattle.queue.proofs.RecordLaws.{None, apart-receiving-behind, gain, take-words, sole-add-all, take-other, take-there, recorded-take}
-use Rattle.queue.proofs.FreshLaws.{own-pass, side-behind, fresh-fits}
+use Rattle.queue.proofs.FreshLaws.{fresh-fits}
 
 -- ---- one descriptor without fault
 
@@ -54,7 +59,7 @@ fault-passed kinds w pl d e =
     let c = orElse-zero (blockFault kinds (sideAt pl) (w (d + 1)) (w (d + 2)) (w (d + 3))) _ (b .1) in
     let f = orElse-zero (sumFault pl (w (d + 2)) (w (d + 3))) _ (c .1) in
     record {
-      own = own-pass pl (w (d + 1)) (w (d + 2)) (w (d + 3)) (a .0) (b .0) (f .0);
+      own = ownFault-pass pl (w (d + 1)) (w (d + 2)) (w (d + 3)) (a .0) (b .0) (f .0);
       room = room-free _ (want 15 (isFree (roomOf (sideAt pl) kinds (firstByte (sideAt pl) (w (d + 1)) (w (d + 2)) (w (d + 3))) (lengthOf (sideAt pl) (w (d + 2))))) 0 (c .0) .0);
       next = f .1;
     }
@@ -64,29 +69,10 @@ next-ends : (pl : Place) (x0 : ℕ) → x0 ≡ 0 → nextFault pl x0 ≡ 0 → e
 unfolding nextFault
 next-ends pl x0 z e = rw z at e
 
--- ---- the measure: the words not yet met fall
-
-past-falls : (z : Bool) (pl : Place) (u : List ℕ) (d n : ℕ) (x : JOut) (t : JSt) → freeAt u d ≡ true
-    → pick {A = Next JSt JOut} z (stop x) (go (pl, addFour u d, n)) ≡ go t → freeCount (t .1) < freeCount u
-past-falls true pl u d n x t f e = let k : _≡_ {A = ℕ} 0 1 = cc in absurd (omega arith)
-past-falls false pl u d n x t f e = let k : (pl, addFour u d, n) ≡ t = cc in rw (← k) (freeCount-falls u d f)
-
-falls-at : (a b c z : Bool) (x1 x2 x3 x4 : JOut) (pl : Place) (u : List ℕ) (d n : ℕ) (t : JSt) → freeAt u d ≡ b
-    → pick {A = Next JSt JOut} a (pick b (pick c (pick z (stop x1) (go (pl, addFour u d, n))) (stop x2)) (stop x3)) (stop x4) ≡ go t → freeCount (t .1) < freeCount u
-falls-at true true true z x1 x2 x3 x4 pl u d n t f e = past-falls z pl u d n x1 t f e
-falls-at true true false z x1 x2 x3 x4 pl u d n t f e = let k : _≡_ {A = ℕ} 0 1 = cc in absurd (omega arith)
-falls-at true false c z x1 x2 x3 x4 pl u d n t f e = let k : _≡_ {A = ℕ} 0 1 = cc in absurd (omega arith)
-falls-at false b c z x1 x2 x3 x4 pl u d n t f e = let k : _≡_ {A = ℕ} 0 1 = cc in absurd (omega arith)
-
-judge-falls : (kinds : List ℕ) (w : ℕ → ℕ) (s t : JSt) → judgeStep kinds w s ≡ go t → freeCount (t .1) < freeCount (s .1)
-unfolding judgeStep
-judge-falls kinds w s t e =
-    falls-at (goodPtr (s .2)) (freeAt (s .1) (wordOf (s .2))) (eqb (descFault kinds w (s .0) (wordOf (s .2))) 0) (eqb (w (wordOf (s .2))) 0) _ _ _ _ _ (s .1) (wordOf (s .2)) _ t refl e
-
 pub chain-eq : (kinds : List ℕ) (w : ℕ → ℕ) (pl : Place) (met : List ℕ) (p : ℕ)
     → chainOf kinds w pl met p ≡ after (judgeStep kinds w (pl, met, p)) (λ t. chainOf kinds w (t .0) (t .1) (t .2))
 unfolding chainOf
-chain-eq kinds w pl met p = run-eq (judgeStep kinds w) _ _ (judge-falls kinds w) (pl, met, p)
+chain-eq kinds w pl met p = run-eq (judgeStep kinds w) _ _ (judgeStep-falls kinds w) (pl, met, p)
 
 -- ---- judged 0
 
@@ -144,7 +130,7 @@ found (suc n) kinds w pl met p at out l e =
           unmet = (f, r .unmet);
           words = r .words;
           fresh = (q .own, r .fresh);
-          roomy = (q .room, rw (side-behind pl (w (d + 2)) (w (d + 3))) at (r .roomy));
+          roomy = (q .room, rw (sideAt-behind pl (w (d + 2)) (w (d + 3))) at (r .roomy));
         }
 
 pub judged-list : (kinds : List ℕ) (w : ℕ → ℕ) (pl : Place) (met : List ℕ) (p : ℕ) → chainOf kinds w pl met p .0 ≡ 0
@@ -155,24 +141,9 @@ judged-list kinds w pl met p e =
 
 -- ---- the hand-over
 
-take-falls : (side : Side) (x2 : ℕ) (u : Uses) (d : ℕ) → freeAt (u .0) d ≡ true → freeCount (takeOne side x2 u d .0) < freeCount (u .0)
-unfolding takeOne
-take-falls side x2 u d f = freeCount-falls (u .0) d f
-
-taken-at : (a b : Bool) (side : Side) (x2 : ℕ) (u : Uses) (d n : ℕ) (t : Uses × ℕ) → freeAt (u .0) d ≡ b
-    → pick {A = Next (Uses × ℕ) Uses} a (pick b (go (takeOne side x2 u d, n)) (stop u)) (stop u) ≡ go t → freeCount (t .0 .0) < freeCount (u .0)
-taken-at true true side x2 u d n t f e = let k : (takeOne side x2 u d, n) ≡ t = cc in rw (← k) (take-falls side x2 u d f)
-taken-at true false side x2 u d n t f e = let z : _≡_ {A = ℕ} 0 1 = cc in absurd (omega arith)
-taken-at false b side x2 u d n t f e = let z : _≡_ {A = ℕ} 0 1 = cc in absurd (omega arith)
-
-taken-falls : (w : ℕ → ℕ) (side : Side) (s t : Uses × ℕ) → takeStep w side s ≡ go t → freeCount (t .0 .0) < freeCount (s .0 .0)
-unfolding takeStep
-taken-falls w side s t e =
-    taken-at (goodPtr (s .1)) (freeAt (s .0 .0) (wordOf (s .1))) side (w (wordOf (s .1) + 2)) (s .0) (wordOf (s .1)) (w (wordOf (s .1))) t refl e
-
 pub taken-eq : (w : ℕ → ℕ) (side : Side) (u : Uses) (p : ℕ) → takenFrom w side u p ≡ after (takeStep w side (u, p)) (λ t. takenFrom w side (t .0) (t .1))
 unfolding takenFrom
-taken-eq w side u p = run-eq (takeStep w side) _ _ (taken-falls w side) (u, p)
+taken-eq w side u p = run-eq (takeStep w side) _ _ (takeStep-falls w side) (u, p)
 
 take-words1 : (side : Side) (x2 : ℕ) (u : Uses) (d : ℕ) → takeOne side x2 u d .0 ≡ addFour (u .0) d
 unfolding takeOne

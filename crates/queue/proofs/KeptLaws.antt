@@ -1,21 +1,22 @@
 -- The release over the list of descriptors. Assumes nothing.
+--     Flags, NoEop, Live       word 3 agrees; no packet ends here; OWNER set and TD clear at the head
 --     gone-kept                what went and what is left are the queue
+--     kept-linked, kept-linked-all   what is left is linked
 --     kept-agree, gone-agree   the same flags, the same release
 --     kept-kept, kept-again    absorption: new words that left the flags of what went; the release again changes nothing
 --     gone-again               nothing more goes
 --     kept-live                OWNER set and TD clear at the head: nothing goes
 --     kept-torn, kept-whole    TD at the head, or the mode that drops all: all goes
 --     gone-whole               and that is the whole queue
---     kept-done                a finished packet goes, and the rest with it where its last has EOQ
+--     kept-packet, kept-done   a finished packet goes, and the rest with it where its last has EOQ
 --     kept-still               a queue that the release leaves as it is: empty, or its head is live
-use Prim.Native.Nat.{ℕ, zero, suc, _+_, _≤_, _<_}
+use Prim.Native.Nat.{ℕ, suc, _+_}
 use mathlib.Core.Path.{_≡_, refl, ap, _∙_, sym}
 use mathlib.Core.Bool.{Bool, true, false}
 use mathlib.Core.List.{List, [], _∷_, _++_}
 use native.Mathlib.Omega.{arith}
 use lib.ListN.{length, length-append}
 use Rattle.layout.specs.Choice.{pick}
-use Rattle.layout.proofs.ChoiceLaws.{clash}
 use Rattle.descriptor.specs.Fields.{eop, owner, eoq, td}
 use Rattle.book.specs.declared.Mode.{Mode}
 use Rattle.book.specs.declared.Mode.the-variants.{Head, Packet, All as Whole}

@@ -2,24 +2,22 @@
 --     sole-length              a queue has no more descriptors than there are words in use
 --     last-from                the walk along word 0 comes to the last descriptor
 --     last-yes, last-is        word k is word 0 of the last descriptor exactly where the queue ends in k
-use Prim.Native.Nat.{ℕ, zero, suc, _+_, _≤_, _<_}
+use Prim.Native.Nat.{ℕ, zero, suc, _+_, _≤_}
 use mathlib.Core.Path.{_≡_, refl, ap, _∙_, sym, subst}
-use mathlib.Core.Bool.{Bool, true, false}
+use mathlib.Core.Bool.{true, false}
 use mathlib.Core.List.{List, [], _∷_, _++_}
-use mathlib.Core.Logic.{_≢_}
 use native.Mathlib.Omega.{arith}
 use lib.ListN.{length, length-append}
 use lib.Dec.{eqb}
 use borrow.Author.Tests.{eq-eqb, eqb-true}
 use Rattle.layout.specs.Choice.{pick}
-use Rattle.layout.specs.Layout.{goodPtr, wordOf, addr, descWords}
+use Rattle.layout.specs.Layout.{goodPtr, addr, descWords}
 use Rattle.layout.proofs.ChoiceLaws.{clash}
 use Rattle.layout.proofs.PointerLaws.{goodPtr-addr, wordOf-addr, goodPtr-zero}
-use Rattle.words.specs.WordSet.{dropFour, inUse}
+use Rattle.words.specs.WordSet.{inUse}
 use Rattle.words.proofs.SetLaws.{inUse-falls, inUse-le, has-true}
-use Rattle.guard.specs.Judges.{lastFrom, isLast}
+use Rattle.guard.specs.Judges.{lastFrom, lastOf, isLast}
 use Rattle.queue.specs.Queue.{start, Linked, Sole}
-use Rattle.queue.proofs.LinkLaws.{start-snoc}
 use Rattle.queue.proofs.SoleLaws.{sole-has, sole-drop}
 
 pub sole-length : {u : List ℕ} (ds rs : List ℕ) → Sole u (ds ++ rs) → length ds ≤ inUse u
@@ -64,7 +62,7 @@ test-yes w n xs d k l h e =
 
 pub last-is : {u : List ℕ} (w : ℕ → ℕ) (xs : List ℕ) (k : ℕ) (rs : List ℕ) → Linked w (xs ++ k ∷ []) → Sole u ((xs ++ k ∷ []) ++ rs)
     → isLast w (start (xs ++ k ∷ [])) k ≡ true
-unfolding isLast
+unfolding isLast lastOf
 last-is w xs k rs l s = test-is w descWords xs k l (few xs k rs s)
 
 -- a list that is not empty has a last
@@ -79,7 +77,7 @@ snoc d (e ∷ ds) = let r = snoc e ds in record { front = d ∷ r .front; last =
 
 pub last-yes : {u : List ℕ} (w : ℕ → ℕ) (q rs : List ℕ) (k : ℕ) → Linked w q → Sole u (q ++ rs) → isLast w (start q) k ≡ true
     → (xs : List ℕ) × (q ≡ xs ++ k ∷ [])
-unfolding isLast goodPtr
+unfolding isLast lastOf goodPtr
 last-yes w [] rs k l s e = clash e refl
 last-yes {u} w (d ∷ ds) rs k l s e =
     let r = snoc d ds in

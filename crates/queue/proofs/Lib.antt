@@ -9,3 +9,5 @@ pub mod JudgedLaws
 pub mod SoundLaws
 pub mod LastLaws
 pub mod GrowLaws
+pub mod TwoLaws
+pub mod RoomyLaws

@@ -1,16 +1,15 @@
 -- Lists of descriptors: their parts, and their links. Assumes nothing.
---     all-left, all-right, all-join, all-map, all-mid   P of each, in parts
+--     all-left, all-right, all-join, all-swap, all-map, all-mid, all-every   P of each, in parts
 --     start-zero, start-append   an empty queue begins at 0, and only it; more behind a queue leaves its beginning
 --     linked-right, linked-small   a rest of a queue is linked; descriptors are at most 2044
 --     linked-unique             the list from a pointer is the only one
 --     linked-same               words that agree at each word 0 have the same links
 --     linked-last, linked-join  the last word 0 is 0; a queue goes on where its last word 0 leads
-use Prim.Native.Nat.{ℕ, zero, suc, _+_, _*_, _≤_, _<_}
+use Prim.Native.Nat.{ℕ, _+_, _≤_}
 use mathlib.Core.Path.{_≡_, refl, ap, ap₂, _∙_, sym}
 use mathlib.Core.List.{List, [], _∷_, _++_}
-use mathlib.Core.Logic.{_⊎_, inl, inr, _≢_}
+use mathlib.Core.Logic.{_≢_}
 use native.Mathlib.Omega.{arith}
-use Rattle.layout.specs.Layout.{addr}
 use Rattle.queue.specs.Queue.{start, All, Linked, LinkedAll}
 
 -- ---- P of each
@@ -26,6 +25,9 @@ all-right P (x ∷ xs) ys a = all-right P xs ys (a .1)
 pub all-join : (P : ℕ → Type 0) (xs ys : List ℕ) → All P xs → All P ys → All P (xs ++ ys)
 all-join P [] ys a b = b
 all-join P (x ∷ xs) ys a b = (a .0, all-join P xs ys (a .1) b)
+
+pub all-swap : (P : ℕ → Type 0) (xs ys : List ℕ) → All P (xs ++ ys) → All P (ys ++ xs)
+all-swap P xs ys a = all-join P ys xs (all-right P xs ys a) (all-left P xs ys a)
 
 pub all-map : (P Q : ℕ → Type 0) → ((d : ℕ) → P d → Q d) → (ds : List ℕ) → All P ds → All Q ds
 all-map P Q f [] a = tt

@@ -13,26 +13,25 @@
 --     take-words, sole-add-all the words in use with descriptors taken over free words
 --     take-size, take-other, take-there   the lengths then: as recorded there, all others as they were
 --     gain side ds rx          the receive descriptors, once ds are taken on a side
---     recorded-take            the recorded lengths are right for them
-use Prim.Native.Nat.{ℕ, zero, suc, _+_, _≤_, _<_}
+--     RecordFits, recorded-take   the recorded lengths are right for them, where what is recorded is 1 to 2,047
+use Prim.Native.Nat.{ℕ, zero, suc, _+_, _≤_}
 use mathlib.Core.Path.{_≡_, refl, ap, _∙_, sym}
 use mathlib.Core.Bool.{Bool, true, false}
-use mathlib.Core.List.{List, [], _∷_, _++_, append-assoc, append-nil}
+use mathlib.Core.List.{List, [], _∷_, _++_}
 use mathlib.Core.Logic.{_⊎_, inl, inr, _≢_}
 use native.Mathlib.Omega.{arith}
 use lib.ListN.{length, getD, set, length-set}
 use lib.Seq.{getD-set-same, getD-set-other}
 use lib.Dec.{eqb}
 use borrow.Author.Tests.{eqb-true, eqb-false}
-use Rattle.layout.specs.Choice.{pick}
 use Rattle.layout.specs.Layout.{lengthMax}
 use Rattle.layout.specs.declared.Side.{Side}
 use Rattle.layout.specs.declared.Side.the-variants.{Transmit, Receive}
-use Rattle.words.specs.WordSet.{emptySet, freeAt, addFour, dropFour}
-use Rattle.words.proofs.SetLaws.{length-emptySet, getD-emptySet, freeAt-is}
+use Rattle.words.specs.WordSet.{emptySet, addFour, dropFour}
+use Rattle.words.proofs.SetLaws.{length-emptySet, getD-emptySet}
 use Rattle.descriptor.specs.Fields.{lengthOf}
 use Rattle.book.specs.HandOver.{Uses, recordOf, takeOne, dropOne}
-use Rattle.queue.specs.Queue.{All, Off, Apart, count, Sole, Recorded, flat, receiving, Unmet, addAll, dropAll, takeAll}
+use Rattle.queue.specs.Queue.{All, Off, Apart, Sole, Recorded, flat, receiving, Unmet, addAll, dropAll, takeAll}
 use Rattle.queue.proofs.LinkLaws.{all-left, all-right, all-join, all-map, all-mid}
 use Rattle.queue.proofs.SoleLaws.{count-append, sole-perm, sole-drop, sole-add, off-ne, apart-right, apart-back}
 

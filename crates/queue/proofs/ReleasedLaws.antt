@@ -2,59 +2,35 @@
 --     released-list            one queue: its head is that of what is kept, and what went is dropped
 --     released-queues          all queues
 --     gone-kept-count          what goes and what is kept are all descriptors
+--     released-again           a second release changes nothing
 --     released-sole            the words in use are exactly those of what is kept
 --     released-recorded        and so are the recorded lengths
-use Prim.Native.Nat.{ℕ, zero, suc, _+_, _≤_, _<_}
+use Prim.Native.Nat.{ℕ, _+_}
 use mathlib.Core.Path.{_≡_, refl, ap, _∙_, sym}
-use mathlib.Core.Bool.{Bool, true, false}
 use mathlib.Core.List.{List, [], _∷_, _++_, append-assoc, append-nil}
-use mathlib.Core.Logic.{_⊎_, inl, inr, _≢_}
+use mathlib.Core.Logic.{_≢_}
 use native.Mathlib.Omega.{arith}
-use lib.ListN.{length, getD, set}
-use Rattle.layout.specs.Choice.{pick}
-use Rattle.layout.specs.Run.{Next, go, stop, after, run}
-use Rattle.layout.specs.Layout.{goodPtr, wordOf, addr}
+use lib.ListN.{getD}
+use Rattle.layout.specs.Run.{after}
+use Rattle.layout.specs.Layout.{addr}
 use Rattle.layout.proofs.RunLaws.{run-eq}
 use Rattle.layout.proofs.PointerLaws.{goodPtr-addr, wordOf-addr, goodPtr-zero}
-use Rattle.words.specs.WordSet.{has, dropFour, inUse}
-use Rattle.words.proofs.SetLaws.{has-true, inUse-falls}
 use Rattle.book.specs.declared.Mode.{Mode}
+use Rattle.book.specs.declared.Mode.the-variants.{Head}
 use Rattle.book.specs.declared.Plan.{Plan}
 use Rattle.book.specs.declared.Plan.the-variants.{Keep, Drop}
 use Rattle.book.specs.HandOver.{Uses, dropOne}
-use Rattle.book.specs.Release.{plan, RSt, ROut, planned, releaseStep, releasedFrom, releasedAll}
-use Rattle.queue.specs.Queue.{start, All, Linked, LinkedAll, Off, Apart, count, Sole, Recorded, flat, starts, receiving, carry, kept, gone, keptAll, goneAll, dropAll}
-use Rattle.queue.proofs.LinkLaws.{all-left, all-right, all-join, all-map}
-use Rattle.queue.proofs.SoleLaws.{count-append, sole-perm, sole-apart, sole-has, sole-drop, off-ne, off-sym}
-use Rattle.queue.proofs.KeptLaws.{gone-kept}
+use Rattle.book.specs.Release.{plan, planned, releaseStep, releasedFrom, releasedAll}
+use Rattle.book.proofs.ReleaseLaws.{releaseStep-falls}
+use Rattle.queue.specs.Queue.{start, All, Linked, LinkedAll, count, Sole, Recorded, flat, starts, receiving, carry, kept, gone, keptAll, goneAll, dropAll}
+use Rattle.queue.proofs.LinkLaws.{all-left, all-right, all-join}
+use Rattle.queue.proofs.SoleLaws.{count-append, sole-perm, sole-apart, sole-has}
+use Rattle.queue.proofs.KeptLaws.{gone-kept, kept-linked-all, kept-all-again, gone-all-again}
 use Rattle.queue.proofs.RecordLaws.{Fits, None, receiving-all, apart-none, drop-append, sole-drop-all, recorded-drop}
-
--- ---- the measure: the words in use grow fewer
-
-drop-falls : (u : Uses) (d : ℕ) → has (u .0) d ≡ true → inUse (dropOne u d .0) < inUse (u .0)
-unfolding dropOne
-drop-falls u d h = inUse-falls (u .0) d (has-true (u .0) d h)
-
-planned-falls : (p : Plan) (u : Uses) (at next : ℕ) (t : RSt) → has (u .0) (wordOf at) ≡ true → planned p u at next ≡ go t → inUse (t .0 .0) < inUse (u .0)
-planned-falls Keep u at next t h e = let z : _≡_ {A = ℕ} 0 1 = cc in absurd (omega arith)
-planned-falls (Drop mode) u at next t h e =
-    let k : (dropOne u (wordOf at), next, mode) ≡ t = cc in
-    rw (← k) (drop-falls u (wordOf at) h)
-
-falls-at : (a b : Bool) (p : Plan) (u : Uses) (at next : ℕ) (x y : ROut) (t : RSt) → has (u .0) (wordOf at) ≡ b
-    → pick a (pick b (planned p u at next) (stop x)) (stop y) ≡ go t → inUse (t .0 .0) < inUse (u .0)
-falls-at true true p u at next x y t f e = planned-falls p u at next t f e
-falls-at true false p u at next x y t f e = let z : _≡_ {A = ℕ} 0 1 = cc in absurd (omega arith)
-falls-at false b p u at next x y t f e = let z : _≡_ {A = ℕ} 0 1 = cc in absurd (omega arith)
-
-release-falls : (w : ℕ → ℕ) (s t : RSt) → releaseStep w s ≡ go t → inUse (t .0 .0) < inUse (s .0 .0)
-unfolding releaseStep
-release-falls w s t e =
-    falls-at (goodPtr (s .1)) (has (s .0 .0) (wordOf (s .1))) (plan (s .2) (w (wordOf (s .1) + 3))) (s .0) (s .1) (w (wordOf (s .1))) (s .1, s .0) (s .1, s .0) t refl e
 
 pub released-eq : (w : ℕ → ℕ) (u : Uses) (p : ℕ) (n : Mode) → releasedFrom w u p n ≡ after (releaseStep w (u, p, n)) (λ t. releasedFrom w (t .0) (t .1) (t .2))
 unfolding releasedFrom
-released-eq w u p n = run-eq (releaseStep w) _ _ (release-falls w) (u, p, n)
+released-eq w u p n = run-eq (releaseStep w) _ _ (releaseStep-falls w) (u, p, n)
 
 -- ---- one queue
 
@@ -109,6 +85,13 @@ released-queues w n (q ∷ qs) rs u l s =
 
 pub released-sole : (w : ℕ → ℕ) (n : Mode) (qs : List (List ℕ)) (u : Uses) → Sole (u .0) (flat qs) → Sole (dropAll u (goneAll w n qs) .0) (flat (keptAll w n qs))
 released-sole w n qs u s = sole-drop-all u (goneAll w n qs) (flat (keptAll w n qs)) (sole-perm (gone-kept-count w n qs) s)
+
+-- released once, a second release changes nothing
+pub released-again : (w : ℕ → ℕ) (n : Mode) (qs : List (List ℕ)) (u : Uses) → LinkedAll w qs → Sole (u .0) (flat qs)
+    → releasedAll w Head (starts (keptAll w n qs)) (dropAll u (goneAll w n qs)) ≡ (starts (keptAll w n qs), dropAll u (goneAll w n qs))
+released-again w n qs u l s =
+    released-queues w Head (keptAll w n qs) [] (dropAll u (goneAll w n qs)) (kept-linked-all w n qs l) (rw (append-nil (flat (keptAll w n qs))) (released-sole w n qs u s))
+    ∙ rw (kept-all-again w n qs, gone-all-again w n qs) refl
 
 -- ---- recorded lengths
 

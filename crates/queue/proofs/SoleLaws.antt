@@ -13,14 +13,14 @@
 use Prim.Native.Nat.{ℕ, zero, suc, _+_, _≤_, _<_}
 use mathlib.Core.Path.{_≡_, refl, ap, _∙_, sym}
 use mathlib.Core.Bool.{Bool, true, false}
-use mathlib.Core.List.{List, [], _∷_, _++_, append-assoc, append-nil}
-use mathlib.Core.Logic.{_⊎_, inl, inr, _≢_}
+use mathlib.Core.List.{List, [], _∷_, _++_, append-assoc}
+use mathlib.Core.Logic.{inl, inr, _≢_}
 use native.Mathlib.Omega.{arith}
 use lib.ListN.{length, getD}
 use lib.Seq.{ext-getD}
 use lib.Dec.{leb, ltb}
-use borrow.Author.Tests.{le-leb, lt-leb, lt-ltb, le-ltb, leb-true, leb-false, ltb-true, ltb-false}
-use Rattle.layout.specs.Choice.{pick, both}
+use borrow.Author.Tests.{le-leb, lt-ltb, leb-true, leb-false, ltb-true, ltb-false}
+use Rattle.layout.specs.Choice.{pick}
 use Rattle.layout.proofs.ChoiceLaws.{clash, both-left, both-right}
 use Rattle.words.specs.WordSet.{emptySet, has, freeAt, addFour, dropFour}
 use Rattle.words.proofs.SetLaws.{length-addFour, length-dropFour, length-emptySet, getD-emptySet, getD-addFour-in, getD-addFour-out, getD-dropFour-in, getD-dropFour-out, has-false, has-yes, freeAt-is, freeAt-none, freeAt-yes}

@@ -2,22 +2,22 @@
 --     Walked, walk-list, walk-yes   the chain from a pointer that ends gives its list of descriptors, and conversely
 --     sole-unmet               descriptors beside those met are over free words in turn
 --     firsts-list              the first words that are marked are those of the receive queues
---     lengths-fit, fit-lengths the recorded lengths fit them exactly where they are recorded right
+--     lengths-recorded, recorded-lengths   the recorded lengths fit them exactly where they are recorded right
 --     Queues, sound-queues     a sound book has queues: heads, links, words in use, recorded lengths
 --     sound-yes                and a book that has queues is sound
 use Prim.Native.Nat.{ℕ, zero, suc, _+_, _≤_, _<_}
 use mathlib.Core.Path.{_≡_, refl, ap, ap₂, _∙_, sym}
 use mathlib.Core.Bool.{Bool, true, false}
-use mathlib.Core.List.{List, [], _∷_, _++_, append-assoc, append-nil}
+use mathlib.Core.List.{List, [], _∷_, _++_, append-nil}
 use mathlib.Core.Logic.{_⊎_, inl, inr, _≢_}
 use native.Mathlib.Omega.{arith}
 use lib.ListN.{length, getD, set, length-set}
 use lib.Seq.{getD-set-same, getD-set-other}
 use lib.Dec.{eqb, leb}
-use borrow.Author.Tests.{eq-eqb, ne-eqb, eqb-true, eqb-false, le-leb, leb-true}
+use borrow.Author.Tests.{eq-eqb, ne-eqb, eqb-true, le-leb, leb-true}
 use Rattle.layout.specs.Choice.{pick, both}
-use Rattle.layout.specs.Run.{Next, go, stop, after, run}
-use Rattle.layout.specs.Layout.{goodPtr, wordOf, addr, descWords, lengthMax}
+use Rattle.layout.specs.Run.{Next, go, stop, after}
+use Rattle.layout.specs.Layout.{goodPtr, wordOf, addr, lengthMax}
 use Rattle.layout.proofs.ChoiceLaws.{clash, both-left, both-right}
 use Rattle.layout.proofs.RunLaws.{run-eq}
 use Rattle.layout.proofs.PointerLaws.{goodPtr-is, goodPtr-addr, wordOf-addr, goodPtr-zero}
@@ -26,7 +26,7 @@ use Rattle.words.proofs.SetLaws.{freeCount-falls, getD-in, length-emptySet, get
 use Rattle.book.specs.Sound.{WSt, WOut, walkStep, walkFrom, walkAll, sameList, firstStep, firstsFrom, firstsAll, lengthFits, lengthsFit, sound}
 use Rattle.queue.specs.Queue.{start, All, Linked, LinkedAll, Off, Apart, count, Sole, Recorded, flat, starts, receiving, Unmet, addAll}
 use Rattle.queue.proofs.LinkLaws.{all-left, all-right, all-join, all-map, all-every, linked-small}
-use Rattle.queue.proofs.SoleLaws.{count-append, sole-perm, sole-unique, sole-empty, sole-add, sole-free, sole-apart, once-apart, off-ne}
+use Rattle.queue.proofs.SoleLaws.{count-append, sole-perm, sole-unique, sole-empty, sole-add, sole-free, sole-apart, off-ne}
 use Rattle.queue.proofs.RecordLaws.{Fits, None, none-or, receiving-all, apart-receiving, sole-add-all}
 
 -- ---- the walk
@@ -106,6 +106,10 @@ record Heads (w : ℕ → ℕ) (hs cs out : List ℕ) : Type 0 where
   linked : LinkedAll w qs
   sole : Sole out (flat qs ++ cs)
 
+-- q, then f, then cs: or f first
+count-swap : (q f cs : List ℕ) (k : ℕ) → count ((q ++ f) ++ cs) k ≡ count (f ++ (q ++ cs)) k
+count-swap q f cs k = simp count-append (omega arith)
+
 walk-heads : (w : ℕ → ℕ) (hs u cs : List ℕ) → Sole u cs → walkAll w hs u .0 ≡ true → Heads w hs cs (walkAll w hs u .1)
 walk-heads w [] u cs s e = rw (all-nil w u) (record { qs = []; heads = refl; linked = tt; sole = s })
 walk-heads w (h ∷ hs) u cs s e =
@@ -124,7 +128,7 @@ walk-heads w (h ∷ hs) u cs s e =
           qs = q ∷ t .qs;
           heads = ap₂ (λ (a : ℕ) (b : List ℕ). a ∷ b) (g .begins) (t .heads);
           linked = (g .linked, t .linked);
-          sole = sole-perm (λ k. simp count-append (omega arith)) (t .sole);
+          sole = sole-perm (λ k. sym (count-swap q (flat (t .qs)) cs k)) (t .sole);
         })
 
 pub sole-unmet : (u ds cs : List ℕ) → All (λ d. d ≤ 2044) ds → ((k : ℕ) → count (ds ++ cs) k ≤ 1) → Sole u cs → Unmet u ds
@@ -147,12 +151,9 @@ heads-walk w [] u cs s l c = rw (all-nil w u) (record { ends = refl; sole = s })
 heads-walk w (q ∷ qs) u cs s l c =
     let f = sole-unmet u q cs (linked-small w q (l .0)) (λ k. few q (flat qs) cs k (c k)) s in
     let e = walk-yes w u q (l .0) f in
-    let t = heads-walk w qs (addAll u q) (q ++ cs) (sole-add-all u q cs f s) (l .1) (λ k. rw (swap q (flat qs) cs k) at (c k)) in
-    rw (all-cons w (start q) (starts qs) u, e) (record { ends = t .ends; sole = sole-perm (λ k. sym (swap q (flat qs) cs k)) (t .sole) })
+    let t = heads-walk w qs (addAll u q) (q ++ cs) (sole-add-all u q cs f s) (l .1) (λ k. rw (count-swap q (flat qs) cs k) at (c k)) in
+    rw (all-cons w (start q) (starts qs) u, e) (record { ends = t .ends; sole = sole-perm (λ k. sym (count-swap q (flat qs) cs k)) (t .sole) })
   where
-    swap : (q f cs : List ℕ) (k : ℕ) → count ((q ++ f) ++ cs) k ≡ count (f ++ (q ++ cs)) k
-    swap q f cs k = simp count-append (omega arith)
-
     few : (q f cs : List ℕ) (k : ℕ) → count ((q ++ f) ++ cs) k ≤ 1 → count (q ++ cs) k ≤ 1
     few q f cs k h = let g = simp count-append at h in simp count-append (omega arith)
 

@@ -6,14 +6,15 @@
 --     put-only3, put-only23    a store to word 3, or to words 2 and 3
 --     marked-only, last-marked-only   the controller's marks are such stores
 --     Change, change           words 2 and 3 of one descriptor change: what stays, once for every queue
-use Prim.Native.Nat.{ℕ, zero, suc, _+_, _≤_, _<_}
-use mathlib.Core.Path.{_≡_, refl, ap, _∙_, sym}
+use Prim.Native.Nat.{ℕ, _+_, _≤_, _<_}
+use mathlib.Core.Path.{_≡_, ap, _∙_}
 use mathlib.Core.List.{List, [], _∷_, _++_, append-assoc}
-use mathlib.Core.Logic.{_⊎_, inl, inr, _≢_}
+use mathlib.Core.Logic.{inl, inr, _≢_}
 use native.Mathlib.Omega.{arith}
 use Rattle.words.specs.Word.{word, put}
 use Rattle.words.proofs.WordLaws.{word-put-other}
 use Rattle.descriptor.specs.Marks.{marked, lastMarked}
+use Rattle.book.specs.declared.Mode.{Mode}
 use Rattle.book.specs.declared.Mode.the-variants.{Head}
 use Rattle.queue.specs.Queue.{All, Linked, LinkedAll, Off, Apart, Outside, kept, gone, flat}
 use Rattle.queue.proofs.LinkLaws.{all-left, all-right, all-join, all-map, linked-same}
@@ -89,19 +90,20 @@ only-off d w v o e (inr h) =
     (o e (omega arith) (omega arith), o (e + 1) (omega arith) (omega arith), o (e + 2) (omega arith) (omega arith), o (e + 3) (omega arith) (omega arith))
 
 -- q is the queue, cs, d and rs what the release leaves of it, os the descriptors of all other queues
-pub record Change (w v : ℕ → ℕ) (q cs : List ℕ) (d : ℕ) (rs os : List ℕ) : Type 0 where
+pub record Change (w v : ℕ → ℕ) (n : Mode) (q cs : List ℕ) (d : ℕ) (rs os : List ℕ) : Type 0 where
   pub before : All (Same w v) cs
   pub behind : All (Same w v) rs
   pub others : All (Same w v) os
   pub same0 : v d ≡ w d
   pub same1 : v (d + 1) ≡ w (d + 1)
   pub linked : Linked w q → Linked v q
-  pub left : kept v Head q ≡ kept v Head (cs ++ d ∷ rs)
+  pub left : kept v n q ≡ kept v Head (cs ++ d ∷ rs)
 
-pub change : (w v : ℕ → ℕ) (q cs : List ℕ) (d : ℕ) (rs os : List ℕ) → Only d w v → kept w Head q ≡ cs ++ d ∷ rs → Apart (q ++ os) → Change w v q cs d rs os
-change w v q cs d rs os o e a =
-    let g = gone w Head q in
-    let whole : g ++ (cs ++ d ∷ rs) ≡ q = rw (← e) (gone-kept w Head q) in
+pub change : (w v : ℕ → ℕ) (n : Mode) (q cs : List ℕ) (d : ℕ) (rs os : List ℕ) → Only d w v → kept w n q ≡ cs ++ d ∷ rs → Apart (q ++ os)
+    → Change w v n q cs d rs os
+change w v n q cs d rs os o e a =
+    let g = gone w n q in
+    let whole : g ++ (cs ++ d ∷ rs) ≡ q = rw (← e) (gone-kept w n q) in
     let a0 : Apart ((g ++ (cs ++ d ∷ rs)) ++ os) = rw whole a in
     let a1 : Apart ((g ++ cs) ++ d ∷ (rs ++ os)) = rw (regroup g cs (d ∷ rs) os) at a0 in
     let fr : All (Same w v) ((g ++ cs) ++ (rs ++ os)) = all-map (Off d) (Same w v) (only-off d w v o) ((g ++ cs) ++ (rs ++ os)) (apart-shift d (g ++ cs) (rs ++ os) a1 .0) in
@@ -120,7 +122,7 @@ change w v q cs d rs os o e a =
       same0 = dn;
       same1 = o (d + 1) (omega arith) (omega arith);
       linked = λ l. linked-same w v q (rw whole at nt) l;
-      left = kept-kept w v Head q (same-flags w v g sg) ∙ ap (λ (y : List ℕ). kept v Head y) e;
+      left = kept-kept w v n q (same-flags w v g sg) ∙ ap (λ (y : List ℕ). kept v Head y) e;
     }
   where
     regroup : (g cs r q : List ℕ) → (g ++ (cs ++ r)) ++ q ≡ (g ++ cs) ++ (r ++ q)

@@ -55,7 +55,7 @@ unfoldable pub zeroFault : ℕ → ℕ
 zeroFault v = pick (eqb v 0) 0 9
 
 -- the class ranges, in the order of their numbers; what is left is not guarded, 4
-abbrev pub byClass : {A : Type 0} → ℕ → (ℕ → A) → (ℕ → A) → (ℕ → A) → A → A → A → A → A → A
+unfoldable pub byClass : {A : Type 0} → ℕ → (ℕ → A) → (ℕ → A) → (ℕ → A) → A → A → A → A → A → A
 byClass n head ack teardown reset zero passed unoffered unguarded =
     pick (ltb n (hdpClass + queues)) (head (n - hdpClass))
     (pick (both (leb cpClass n) (ltb n (cpClass + queues))) (ack (n - cpClass))

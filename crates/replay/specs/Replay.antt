@@ -14,12 +14,12 @@ use Rattle.guard.specs.Answers.{numberOf}
 use Rattle.controller.specs.declared.Engine.{Engine}
 use Rattle.controller.specs.declared.Engine.the-variants.{Reset, Transmit, Receive, TearTransmit, TearReceive}
 use Rattle.machine.specs.Machine.{Machine, write, kind, frame, step, apply, freshMachine}
-use Rattle.replay.specs.declared.Record.{Record}
-use Rattle.replay.specs.declared.Record.the-variants.{Ram, Write, Kind, Frame, Steps}
-use Rattle.replay.specs.declared.Decoded.{Decoded}
-use Rattle.replay.specs.declared.Decoded.the-variants.{End, Good, Bad}
-use Rattle.replay.specs.Records.{decode}
-use Rattle.replay.specs.Lines.{Event, wrote, changed, framed, moved, linesOf, sentLine, badLine}
+use Rattle.records.specs.declared.Record.{Record}
+use Rattle.records.specs.declared.Record.the-variants.{Ram, Write, Kind, Frame, Steps}
+use Rattle.records.specs.declared.Decoded.{Decoded}
+use Rattle.records.specs.declared.Decoded.the-variants.{End, Good, Bad}
+use Rattle.records.specs.Records.{decode}
+use Rattle.records.specs.Lines.{Event, wrote, changed, framed, moved, linesOf, sentLine, badLine}
 
 unfoldable pub engineOf : ℕ → Engine
 engineOf e =

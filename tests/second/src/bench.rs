@@ -141,7 +141,12 @@ pub fn run(input: &[u8], variant: Variant, watcher: &mut dyn Watcher) -> String 
     match (bad, machine) {
         (None, Some(machine)) => {
             let controller = &machine.controller;
-            writeln!(out, "sent {} received {}", controller.sent, controller.received).unwrap();
+            writeln!(
+                out,
+                "sent {} received {}",
+                controller.sent, controller.received
+            )
+            .unwrap();
         }
         (bad, _) => {
             watcher.bad_record();

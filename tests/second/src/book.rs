@@ -59,7 +59,14 @@ impl Book {
     /// word is met twice, the words met are exactly those in use, and recorded
     /// lengths are 1..2,047 for the receive queue's descriptors and 0 elsewhere."
     pub fn is_sound(&self, memory: &Memory) -> bool {
+        self.is_sound_in(memory, Variant::Right)
+    }
+
+    /// The same, for a model that may be broken: one that compares first words only does
+    /// not notice other words met twice.
+    pub fn is_sound_in(&self, memory: &Memory, variant: Variant) -> bool {
         let mut met = vec![0u8; DESC_WORDS];
+        let mut starts = vec![false; DESC_WORDS];
         let mut receive_starts = vec![false; DESC_WORDS];
         for side in Side::BOTH {
             let mut pointer = self.head(side);
@@ -67,10 +74,16 @@ impl Book {
                 if !is_good(pointer) {
                     return false;
                 }
+                let first = first_word(pointer);
+                let met_already = match variant {
+                    Variant::OverlapFirstWordOnly => starts[first],
+                    _ => four_words(pointer).iter().any(|&word| met[word] != 0),
+                };
+                if met_already {
+                    return false;
+                }
+                starts[first] = true;
                 for word in four_words(pointer) {
-                    if met[word] != 0 {
-                        return false;
-                    }
                     met[word] = 1;
                 }
                 if side == Side::Receive {

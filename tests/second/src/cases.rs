@@ -47,7 +47,11 @@ struct Script {
 impl Script {
     /// `RM` with these kinds, nothing else yet.
     fn raw(name: &'static str, kinds: &[u8]) -> Script {
-        Script { name, input: Record::Kinds(kinds.to_vec()).bytes(), expected: String::new() }
+        Script {
+            name,
+            input: Record::Kinds(kinds.to_vec()).bytes(),
+            expected: String::new(),
+        }
     }
 
     /// "Kinds 0,1,2,3, initialised".
@@ -60,11 +64,15 @@ impl Script {
     }
 
     fn zeros(self) -> Script {
-        self.gw(TX_HDP, 0, 0).gw(RX_HDP, 0, 0).gw(TX_CP, 0, 0).gw(RX_CP, 0, 0)
+        self.gw(TX_HDP, 0, 0)
+            .gw(RX_HDP, 0, 0)
+            .gw(TX_CP, 0, 0)
+            .gw(RX_CP, 0, 0)
     }
 
     fn gw(mut self, address: u32, value: u32, answer: u8) -> Script {
-        self.input.extend(Record::GuestWrite(address, value).bytes());
+        self.input
+            .extend(Record::GuestWrite(address, value).bytes());
         writeln!(self.expected, "W {address:08X} {answer}").unwrap();
         self
     }
@@ -105,17 +113,29 @@ impl Script {
 
     fn end(mut self, sent: u64, received: u64) -> Case {
         writeln!(self.expected, "sent {sent} received {received}").unwrap();
-        Case { name: self.name, input: self.input, expected: self.expected }
+        Case {
+            name: self.name,
+            input: self.input,
+            expected: self.expected,
+        }
     }
 
     fn bad(mut self, offset: usize) -> Case {
         writeln!(self.expected, "bad record {offset}").unwrap();
-        Case { name: self.name, input: self.input, expected: self.expected }
+        Case {
+            name: self.name,
+            input: self.input,
+            expected: self.expected,
+        }
     }
 }
 
 fn nothing_before(name: &'static str, input: &[u8], expected: &str) -> Case {
-    Case { name, input: input.to_vec(), expected: expected.to_string() }
+    Case {
+        name,
+        input: input.to_vec(),
+        expected: expected.to_string(),
+    }
 }
 
 pub fn all() -> Vec<Case> {
@@ -148,7 +168,10 @@ fn both_sides(cases: &mut Vec<Case>) {
             .desc(top, [0, 0x8000_1000, 60, OWNER])
             .gw(RX_HDP, top, 0)
             .end(0, 0),
-        Script::new("HDP 4A103FF4 is 12").gw(TX_HDP, top + 4, 12).gw(RX_HDP, top + 4, 12).end(0, 0),
+        Script::new("HDP 4A103FF4 is 12")
+            .gw(TX_HDP, top + 4, 12)
+            .gw(RX_HDP, top + 4, 12)
+            .end(0, 0),
         Script::new("receive 80001FFF length 1")
             .desc(D0, [0, 0x8000_1FFF, 1, OWNER])
             .gw(RX_HDP, D0, 0)
@@ -222,10 +245,23 @@ fn both_sides(cases: &mut Vec<Case>) {
             .kc(1, 1, 0)
             .kc(2, 4, 0)
             .end(0, 0),
-        Script::new("block 1 to kind 2 without a buffer").kc(1, 2, 0).end(0, 0),
-        Script::new("block 0 is 20").kc(0, 1, 20).kc(0, 4, 20).end(0, 0),
-        Script::new("block 4 is 18").kc(4, 1, 18).kc(65535, 1, 18).kc(3, 1, 0).end(0, 0),
-        Script::new("kind 0 is 19").kc(1, 0, 19).kc(1, 5, 19).kc(1, 4, 0).end(0, 0),
+        Script::new("block 1 to kind 2 without a buffer")
+            .kc(1, 2, 0)
+            .end(0, 0),
+        Script::new("block 0 is 20")
+            .kc(0, 1, 20)
+            .kc(0, 4, 20)
+            .end(0, 0),
+        Script::new("block 4 is 18")
+            .kc(4, 1, 18)
+            .kc(65535, 1, 18)
+            .kc(3, 1, 0)
+            .end(0, 0),
+        Script::new("kind 0 is 19")
+            .kc(1, 0, 19)
+            .kc(1, 5, 19)
+            .kc(1, 4, 0)
+            .end(0, 0),
         Script::new("4A100A02 is 3").gw(0x4A10_0A02, 0, 3).end(0, 0),
         Script::new("4A100900 is 4").gw(0x4A10_0900, 0, 4).end(0, 0),
     ]);
@@ -776,7 +812,11 @@ fn stepping(cases: &mut Vec<Case>) {
             .gw(RX_HDP, D0, 0)
             .fr(100, 0)
             // 1, 2, 2, 3, 1, 2, 3, 4, 5, 6
-            .st(RECEIVE, 8, &["S 80001000 64", "S 80001040 6", "S 80001100 30"])
+            .st(
+                RECEIVE,
+                8,
+                &["S 80001000 64", "S 80001040 6", "S 80001100 30"],
+            )
             .gw(D0 + 4, 0, 11)
             .st(RECEIVE, 1, &[])
             .gw(D0 + 4, 0, 0)
@@ -880,7 +920,11 @@ fn bad_records(cases: &mut Vec<Case>) {
         nothing_before("one byte", b"R", "bad record 0\n"),
         nothing_before("RM cut", b"RM\x02\x00\x01", "bad record 0\n"),
         nothing_before("RM with N 0", b"RM\x00\x00", "bad record 0\n"),
-        nothing_before("RM with a kind over 4", b"RM\x02\x00\x01\x05", "bad record 0\n"),
+        nothing_before(
+            "RM with a kind over 4",
+            b"RM\x02\x00\x01\x05",
+            "bad record 0\n",
+        ),
         nothing_before("no RM", b"KC\x01\x00\x02", "bad record 0\n"),
         nothing_before("RM alone", b"RM\x01\x00\x04", "sent 0 received 0\n"),
         Script::raw("RM with N 16384", &vec![1; 16384])
@@ -888,13 +932,24 @@ fn bad_records(cases: &mut Vec<Case>) {
             .kc(16384, 2, 18)
             .end(0, 0),
         Script::raw("RM with N 16385", &vec![1; 16385]).bad(0),
-        Script::new("a second RM").bytes(b"RM\x01\x00\x01").bad(8 + 40),
-        Script::new("unknown mark").kc(1, 2, 0).bytes(b"XX").kc_not_read(1).bad(8 + 40 + 5),
-        Script::new("GW cut").bytes(b"GW\x00\x0A\x10\x4A\x00\x00\x00").bad(8 + 40),
+        Script::new("a second RM")
+            .bytes(b"RM\x01\x00\x01")
+            .bad(8 + 40),
+        Script::new("unknown mark")
+            .kc(1, 2, 0)
+            .bytes(b"XX")
+            .kc_not_read(1)
+            .bad(8 + 40 + 5),
+        Script::new("GW cut")
+            .bytes(b"GW\x00\x0A\x10\x4A\x00\x00\x00")
+            .bad(8 + 40),
         Script::new("KC cut").bytes(b"KC\x00\x00").bad(8 + 40),
         Script::new("FR cut").bytes(b"FR\x00").bad(8 + 40),
         Script::new("ST cut").bytes(b"ST\x01").bad(8 + 40),
-        Script::new("one byte over").fr(0, 23).bytes(b"G").bad(8 + 40 + 4),
+        Script::new("one byte over")
+            .fr(0, 23)
+            .bytes(b"G")
+            .bad(8 + 40 + 4),
         Script::new("ST engine 5").bytes(b"ST\x05\x01").bad(8 + 40),
         Script::new("ST count 0").bytes(b"ST\x01\x00").bad(8 + 40),
     ]);

@@ -23,7 +23,8 @@ impl Watcher for Counter {
     fn written(&mut self, written: &Written) {
         let answer = &written.answer;
         self.tally.add(&format!("W {:02}", answer.number));
-        self.tally.add(&format!("judge {} {:02}", answer.judge, answer.number));
+        self.tally
+            .add(&format!("judge {} {:02}", answer.judge, answer.number));
         if written.controller.is_some_and(|own| own != 0) {
             self.twenty_two = true;
         }
@@ -52,11 +53,20 @@ pub fn wanted() -> Vec<String> {
             keys.push(format!("{mark} {n:02}"));
         }
     };
-    numbers("W", &[0, 3, 4, 5, 6, 7, 8, 9, 10, 11, 12, 13, 14, 15, 16, 17]);
+    numbers(
+        "W",
+        &[0, 3, 4, 5, 6, 7, 8, 9, 10, 11, 12, 13, 14, 15, 16, 17],
+    );
     numbers("K", &[0, 18, 19, 20, 21]);
     numbers("F", &[0, 23, 24]);
-    numbers("judge transmit HDP", &[0, 6, 7, 8, 9, 10, 12, 13, 14, 15, 16, 17]);
-    numbers("judge receive HDP", &[0, 6, 7, 8, 9, 10, 12, 13, 14, 15, 16]);
+    numbers(
+        "judge transmit HDP",
+        &[0, 6, 7, 8, 9, 10, 12, 13, 14, 15, 16, 17],
+    );
+    numbers(
+        "judge receive HDP",
+        &[0, 6, 7, 8, 9, 10, 12, 13, 14, 15, 16],
+    );
     numbers("judge transmit CP", &[0, 6]);
     numbers("judge receive CP", &[0, 6]);
     numbers("judge transmit teardown", &[0, 6, 7, 8, 9, 10]);
@@ -158,7 +168,16 @@ fn damage(rng: &mut Rng, pieces: &mut Pieces) {
         }
         3 => pieces.push(vec![rng.pick(b"RGKFSx")]),
         4 | 5 => {
-            let mark = rng.pick(&[*b"XX", *b"gw", *b"GX", *b"WG", [0, 0], *b"MR", *b"SR", *b"K\n"]);
+            let mark = rng.pick(&[
+                *b"XX",
+                *b"gw",
+                *b"GX",
+                *b"WG",
+                [0, 0],
+                *b"MR",
+                *b"SR",
+                *b"K\n",
+            ]);
             let mut bytes = mark.to_vec();
             bytes.extend(vec![rng.u32() as u8; rng.index(9)]);
             pieces.insert(at, bytes);
@@ -273,7 +292,11 @@ pub struct Result {
 
 /// `files` generated files; stops at the first difference.
 pub fn compare(external: &External, files: u64, seed: u64) -> Result {
-    let mut result = Result { files: 0, failed: 0, counter: Counter::default() };
+    let mut result = Result {
+        files: 0,
+        failed: 0,
+        counter: Counter::default(),
+    };
     for i in 0..files {
         let file_seed = Rng::new(seed).next().wrapping_add(i);
         // A file can be made again from its seed alone.

@@ -2,8 +2,10 @@
 
 use crate::controller::Engine;
 use crate::external::External;
-use crate::memory::DESC_WORDS;
-use crate::probe::{self, call_name, call_taken, engine_taken, rx_numbers, tx_numbers, Case, Outcome};
+use crate::memory::{first_word, four_words, Side, DESC_WORDS};
+use crate::probe::{
+    self, call_name, call_taken, engine_taken, rx_numbers, tx_numbers, Case, Outcome, State,
+};
 use crate::probe_gen::{write_noisy, Maker};
 use crate::rng::Rng;
 use crate::tally::Tally;
@@ -31,8 +33,14 @@ pub fn wanted() -> Vec<String> {
     numbers("frame", &[0, 22, 23, 24]);
     numbers("step", &[0, 1, 22]);
     numbers("unguarded write", &[0, 1, 3, 4, 22]);
-    numbers("judge transmit HDP", &[0, 6, 7, 8, 9, 10, 12, 13, 14, 15, 16, 17]);
-    numbers("judge receive HDP", &[0, 6, 7, 8, 9, 10, 12, 13, 14, 15, 16]);
+    numbers(
+        "judge transmit HDP",
+        &[0, 6, 7, 8, 9, 10, 12, 13, 14, 15, 16, 17],
+    );
+    numbers(
+        "judge receive HDP",
+        &[0, 6, 7, 8, 9, 10, 12, 13, 14, 15, 16],
+    );
     numbers("judge transmit CP", &[0, 6]);
     numbers("judge receive CP", &[0, 6]);
     numbers("judge transmit teardown", &[0, 6, 7, 8, 9, 10]);
@@ -61,6 +69,8 @@ pub fn wanted() -> Vec<String> {
         numbers(&format!("step {name} at stage 2"), &[0]);
         numbers(&format!("step {name} at stage 3"), &[0]);
     }
+    keys.push("sum stays at 2^32 - 1".to_string());
+    keys.push("here stays at 2^32 - 1".to_string());
     for taken in crate::compare_bench::STEPS {
         keys.push(format!("taken {taken}"));
     }
@@ -70,7 +80,9 @@ pub fn wanted() -> Vec<String> {
 fn count(tally: &mut Tally, case: &Case, outcome: &Outcome) {
     let call = call_taken(case.call);
     tally.add(&format!("{} {:02}", call_name(call), outcome.number));
-    if call == probe::GUEST_WRITE && outcome.number > 2 || outcome.effect != crate::guard::Effect::None {
+    if call == probe::GUEST_WRITE && outcome.number > 2
+        || outcome.effect != crate::guard::Effect::None
+    {
         tally.add(&format!("judge {} {:02}", outcome.label, outcome.number));
     }
     if call == probe::STEP && outcome.number != 1 && !case.state.controller.undefined {
@@ -82,9 +94,25 @@ fn count(tally: &mut Tally, case: &Case, outcome: &Outcome) {
             Engine::Receive => format!(" at tag {}", rx_numbers(&controller.rx)[0]),
             Engine::Teardown(side) => format!(" at stage {}", controller.stages[side.index()]),
         };
-        let moved = outcome.number == 22 || outcome.label != "cannot move" || at.ends_with("tag 0") || at.ends_with("tag 1");
+        let moved = outcome.number == 22
+            || outcome.label != "cannot move"
+            || at.ends_with("tag 0")
+            || at.ends_with("tag 1");
         if moved {
-            tally.add(&format!("step {}{} {:02}", engine.name(), at, outcome.number));
+            tally.add(&format!(
+                "step {}{} {:02}",
+                engine.name(),
+                at,
+                outcome.number
+            ));
+        }
+        let after = &outcome.after.controller;
+        let top = u64::from(u32::MAX);
+        if outcome.label == "transmit 1, middle" && tx_numbers(&after.tx)[3] == top {
+            tally.add("sum stays at 2^32 - 1");
+        }
+        if engine == Engine::Receive && rx_numbers(&after.rx)[6] == top && outcome.burst.is_some() {
+            tally.add("here stays at 2^32 - 1");
         }
         if outcome.number == 0 {
             tally.add(&format!("taken {}", outcome.label));
@@ -107,12 +135,21 @@ fn differs(external: &External, case: &Case) -> bool {
 
 /// `cases` generated cases; stops at the first difference.
 pub fn compare(external: &External, cases: u64, seed: u64) -> Result {
-    let mut result = Result { cases: 0, failed: 0, tally: Tally::new() };
+    let mut result = Result {
+        cases: 0,
+        failed: 0,
+        tally: Tally::new(),
+    };
     let mut maker = Maker::new(Rng::new(seed).next());
     let mut rng = Rng::new(seed ^ 0xBE7E);
     while result.cases < cases {
-        let batch: Vec<Case> = (0..BATCH.min(cases - result.cases)).map(|_| maker.case()).collect();
-        let bytes: Vec<Vec<u8>> = batch.iter().map(|case| some_bytes(case, &mut rng)).collect();
+        let batch: Vec<Case> = (0..BATCH.min(cases - result.cases))
+            .map(|_| maker.case())
+            .collect();
+        let bytes: Vec<Vec<u8>> = batch
+            .iter()
+            .map(|case| some_bytes(case, &mut rng))
+            .collect();
         let mut input = bytes.concat();
         if batch.len() % 7 == 0 {
             // A cut case at the end prints nothing.
@@ -129,7 +166,11 @@ pub fn compare(external: &External, cases: u64, seed: u64) -> Result {
             result.cases += 1;
             if ours != their {
                 result.failed += 1;
-                println!("FAILED case {} of seed {seed} ({} in its batch)", result.cases - 1, i);
+                println!(
+                    "FAILED case {} of seed {seed} ({} in its batch)",
+                    result.cases - 1,
+                    i
+                );
                 report(external, case, &bytes[i], &ours, &their);
                 return result;
             }
@@ -151,7 +192,10 @@ fn some_bytes(case: &Case, rng: &mut Rng) -> Vec<u8> {
     let bytes = write_noisy(case, rng);
     let mut rest = bytes.as_slice();
     let read = probe::read_case(&mut rest).expect("a whole case");
-    assert!(rest.is_empty() && read == *case, "the noisy bytes are another case");
+    assert!(
+        rest.is_empty() && read == *case,
+        "the noisy bytes are another case"
+    );
     bytes
 }
 
@@ -185,6 +229,9 @@ fn simplify(external: &External, mut case: Case) -> Case {
             *case = other;
         }
     };
+    for side in Side::BOTH {
+        attempt(&mut case, &|c| drop_queue(c, side));
+    }
     for word in 0..case.state.memory.words() {
         if case.state.memory.word(word) != 0 {
             attempt(&mut case, &|c| c.state.memory.set_word(word, 0));
@@ -205,21 +252,49 @@ fn simplify(external: &External, mut case: Case) -> Case {
         attempt(&mut case, &|c| c.state.controller.registers.hdp[i] = 0);
         attempt(&mut case, &|c| c.state.controller.registers.cp[i] = 0);
         attempt(&mut case, &|c| c.state.book.teardown_pending[i] = false);
-        attempt(&mut case, &|c| c.state.controller.teardown_pending[i] = false);
+        attempt(&mut case, &|c| {
+            c.state.controller.teardown_pending[i] = false
+        });
         attempt(&mut case, &|c| c.state.controller.stages[i] = 1);
     }
     attempt(&mut case, &|c| c.state.book.reset_pending = false);
     attempt(&mut case, &|c| c.state.controller.reset_pending = false);
-    attempt(&mut case, &|c| c.state.controller.registers.reset_bit = false);
+    attempt(&mut case, &|c| {
+        c.state.controller.registers.reset_bit = false
+    });
     attempt(&mut case, &|c| c.state.controller.sent = 0);
     attempt(&mut case, &|c| c.state.controller.received = 0);
-    attempt(&mut case, &|c| c.state.controller.tx = crate::controller::TxPhase::Idle);
-    attempt(&mut case, &|c| c.state.controller.rx = crate::controller::RxPhase::Idle);
+    attempt(&mut case, &|c| {
+        c.state.controller.tx = crate::controller::TxPhase::Idle
+    });
+    attempt(&mut case, &|c| {
+        c.state.controller.rx = crate::controller::RxPhase::Idle
+    });
     case
 }
 
+/// A whole queue out of a sound book.
+fn drop_queue(case: &mut Case, side: Side) {
+    let State { memory, book, .. } = &mut case.state;
+    if !memory.size_is_right() || !book.is_sound(memory) {
+        return;
+    }
+    for pointer in book.queue(memory, side) {
+        for word in four_words(pointer) {
+            book.in_use[word] = 0;
+        }
+        book.lengths[first_word(pointer)] = 0;
+    }
+    book.heads[side.index()] = 0;
+}
+
 fn print_case(case: &Case) {
-    println!("--- the case: {} {:#X} {:#X}", call_name(case.call), case.a, case.b);
+    println!(
+        "--- the case: {} {:#X} {:#X}",
+        call_name(case.call),
+        case.a,
+        case.b
+    );
     let state = &case.state;
     print!("memory {} bytes:", state.memory.bytes.len());
     for word in 0..state.memory.words() {
@@ -228,15 +303,27 @@ fn print_case(case: &Case) {
         }
     }
     println!();
-    println!("kinds N {}: {:?}", state.kinds.len(), &state.kinds[..state.kinds.len().min(32)]);
+    println!(
+        "kinds N {}: {:?}",
+        state.kinds.len(),
+        &state.kinds[..state.kinds.len().min(32)]
+    );
     let book = &state.book;
-    println!("heads {:#X} {:#X} marks {:?} reset {} teardowns {:?}",
-        book.heads[0], book.heads[1], book.marks.0, book.reset_pending, book.teardown_pending);
-    let used: Vec<(usize, u8)> = (0..DESC_WORDS).map(|i| (i, book.in_use[i])).filter(|p| p.1 != 0).collect();
-    let lengths: Vec<(usize, u16)> = (0..DESC_WORDS).map(|i| (i, book.lengths[i])).filter(|p| p.1 != 0).collect();
+    println!(
+        "heads {:#X} {:#X} marks {:?} reset {} teardowns {:?}",
+        book.heads[0], book.heads[1], book.marks.0, book.reset_pending, book.teardown_pending
+    );
+    let used: Vec<(usize, u8)> = (0..DESC_WORDS)
+        .map(|i| (i, book.in_use[i]))
+        .filter(|p| p.1 != 0)
+        .collect();
+    let lengths: Vec<(usize, u16)> = (0..DESC_WORDS)
+        .map(|i| (i, book.lengths[i]))
+        .filter(|p| p.1 != 0)
+        .collect();
     println!("in use {used:?}");
     println!("lengths {lengths:?}");
-    println!("{:#X?}", state.controller);
+    println!("{:X?}", state.controller);
 }
 
 fn print_both(ours: &str, theirs: &str) {

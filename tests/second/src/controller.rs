@@ -12,17 +12,45 @@ pub enum TxPhase {
     /// At step 1 of a new packet.
     New,
     /// At step 1 inside a packet.
-    Middle { sop: u32, word3: u32, sum: u64 },
+    Middle {
+        sop: u32,
+        word3: u32,
+        sum: u64,
+    },
     /// At step 2.
-    Burst { sop: u32, word3: u32, sum: u64, at: u64, left: u64, next: u32, eop: bool },
+    Burst {
+        sop: u32,
+        word3: u32,
+        sum: u64,
+        at: u64,
+        left: u64,
+        next: u32,
+        eop: bool,
+    },
     /// At step 3.
-    End { sop: u32, word3: u32, sum: u64, next: u32, eop: bool },
+    End {
+        sop: u32,
+        word3: u32,
+        sum: u64,
+        next: u32,
+        eop: bool,
+    },
     /// At step 4.
-    Mark { sop: u32, word3: u32, next: u32 },
+    Mark {
+        sop: u32,
+        word3: u32,
+        next: u32,
+    },
     /// At step 5.
-    Own { sop: u32, word3: u32, next: u32 },
+    Own {
+        sop: u32,
+        word3: u32,
+        next: u32,
+    },
     /// At step 6.
-    Done { next: u32 },
+    Done {
+        next: u32,
+    },
 }
 
 /// The receive engine between two steps. The current descriptor is HDP.
@@ -32,17 +60,47 @@ pub enum RxPhase {
     /// Waiting for a frame.
     Wait,
     /// At step 1.
-    Fetch { first: u32, stored: u64, left: u64 },
+    Fetch {
+        first: u32,
+        stored: u64,
+        left: u64,
+    },
     /// At step 2.
-    Store { first: u32, stored: u64, left: u64, at: u64, room: u64, here: u64 },
+    Store {
+        first: u32,
+        stored: u64,
+        left: u64,
+        at: u64,
+        room: u64,
+        here: u64,
+    },
     /// At step 3.
-    End { first: u32, stored: u64, left: u64, room: u64, here: u64 },
+    End {
+        first: u32,
+        stored: u64,
+        left: u64,
+        room: u64,
+        here: u64,
+    },
     /// At step 4.
-    Last { first: u32, stored: u64, here: u64, next: u32, overrun: bool },
+    Last {
+        first: u32,
+        stored: u64,
+        here: u64,
+        next: u32,
+        overrun: bool,
+    },
     /// At step 5.
-    First { first: u32, stored: u64, next: u32, overrun: bool },
+    First {
+        first: u32,
+        stored: u64,
+        next: u32,
+        overrun: bool,
+    },
     /// At step 6.
-    Done { next: u32 },
+    Done {
+        next: u32,
+    },
 }
 
 #[derive(Clone, PartialEq, Eq, Debug, Hash)]
@@ -163,10 +221,18 @@ impl Controller {
     /// One step of one engine.
     pub fn step(&mut self, memory: &mut Memory, engine: Engine, variant: Variant) -> StepReport {
         if !memory.size_is_right() {
-            return StepReport { answer: 1, burst: None, taken: "memory of another size" };
+            return StepReport {
+                answer: 1,
+                burst: None,
+                taken: "memory of another size",
+            };
         }
         if self.undefined {
-            return StepReport { answer: 22, burst: None, taken: "already undefined" };
+            return StepReport {
+                answer: 22,
+                burst: None,
+                taken: "already undefined",
+            };
         }
         let mut controller = self.clone();
         let mut changed = memory.clone();
@@ -180,11 +246,19 @@ impl Controller {
             Ok((burst, taken)) => {
                 *self = controller;
                 *memory = changed;
-                StepReport { answer: 0, burst, taken }
+                StepReport {
+                    answer: 0,
+                    burst,
+                    taken,
+                }
             }
             Err(Undefined) => {
                 self.undefined = true;
-                StepReport { answer: 22, burst: None, taken: "undefined" }
+                StepReport {
+                    answer: 22,
+                    burst: None,
+                    taken: "undefined",
+                }
             }
         }
     }
@@ -200,25 +274,62 @@ impl Controller {
                 self.transmit_fetch(memory, Some((sop, word3, sum)))
             }
             // "(2) One read burst of min(64, remaining) bytes per step."
-            TxPhase::Burst { sop, word3, sum, at, left, next, eop } => {
+            TxPhase::Burst {
+                sop,
+                word3,
+                sum,
+                at,
+                left,
+                next,
+                eop,
+            } => {
                 must(left > 0 && at + left <= TWO_32)?;
                 let bytes = left.min(64);
-                let burst = Burst { direction: Direction::Read, address: at, bytes };
+                let burst = Burst {
+                    direction: Direction::Read,
+                    address: at,
+                    bytes,
+                };
                 if bytes == left {
-                    self.tx = TxPhase::End { sop, word3, sum, next, eop };
+                    self.tx = TxPhase::End {
+                        sop,
+                        word3,
+                        sum,
+                        next,
+                        eop,
+                    };
                     return Ok((Some(burst), "transmit 2, last burst"));
                 }
                 let (at, left) = (at + bytes, left - bytes);
-                self.tx = TxPhase::Burst { sop, word3, sum, at, left, next, eop };
+                self.tx = TxPhase::Burst {
+                    sop,
+                    word3,
+                    sum,
+                    at,
+                    left,
+                    next,
+                    eop,
+                };
                 Ok((Some(burst), "transmit 2, more to come"))
             }
             // "(3) No EOP: go to the latched next and 1. EOP: latch word 0 afresh."
-            TxPhase::End { sop, word3, sum, next, eop: false } => {
+            TxPhase::End {
+                sop,
+                word3,
+                sum,
+                next,
+                eop: false,
+            } => {
                 self.registers.hdp[0] = next;
                 self.tx = TxPhase::Middle { sop, word3, sum };
                 Ok((None, "transmit 3, to the next descriptor"))
             }
-            TxPhase::End { sop, word3, eop: true, .. } => {
+            TxPhase::End {
+                sop,
+                word3,
+                eop: true,
+                ..
+            } => {
                 must_be_good(hdp)?;
                 let next = memory.descriptor(hdp).next;
                 self.tx = TxPhase::Mark { sop, word3, next };
@@ -268,15 +379,27 @@ impl Controller {
         must(!descriptor.transmit_length_wrong())?; // 15
         let range = descriptor.transmit_range();
         let (sop, word3, sum_before) = inside.unwrap_or((hdp, descriptor.word3, 0));
-        let sum = sum_before + range.length;
+        let sum = kept_to_32_bits(sum_before + range.length);
         let (next, eop) = (descriptor.next, descriptor.eop());
         if eop {
             must(sum == u64::from(word3 & LOW_11))?; // 17
         } else {
             must(next != 0)?; // 17
         }
-        self.tx = TxPhase::Burst { sop, word3, sum, at: range.first, left: range.length, next, eop };
-        let taken = if inside.is_none() { "transmit 1, new packet" } else { "transmit 1, middle" };
+        self.tx = TxPhase::Burst {
+            sop,
+            word3,
+            sum,
+            at: range.first,
+            left: range.length,
+            next,
+            eop,
+        };
+        let taken = if inside.is_none() {
+            "transmit 1, new packet"
+        } else {
+            "transmit 1, middle"
+        };
         Ok((None, taken))
     }
 
@@ -285,7 +408,11 @@ impl Controller {
         match self.rx {
             RxPhase::Idle | RxPhase::Wait => CANNOT_MOVE,
             // "(1) fetch, undefined on 12, 14, 15."
-            RxPhase::Fetch { first, stored, left } => {
+            RxPhase::Fetch {
+                first,
+                stored,
+                left,
+            } => {
                 must(stored + left <= 2047)?;
                 must(is_good(hdp))?; // 12
                 let descriptor = memory.descriptor(hdp);
@@ -293,50 +420,123 @@ impl Controller {
                 must(!descriptor.receive_length_wrong())?; // 15
                 let range = descriptor.receive_range();
                 let (at, room) = (range.first, range.length);
-                self.rx = RxPhase::Store { first, stored, left, at, room, here: 0 };
-                Ok((None, if first == hdp { "receive 1, first" } else { "receive 1, further" }))
+                self.rx = RxPhase::Store {
+                    first,
+                    stored,
+                    left,
+                    at,
+                    room,
+                    here: 0,
+                };
+                Ok((
+                    None,
+                    if first == hdp {
+                        "receive 1, first"
+                    } else {
+                        "receive 1, further"
+                    },
+                ))
             }
             // "(2) One store burst of min(64, room left in the buffer, frame left) bytes
             // per step."
-            RxPhase::Store { first, stored, left, at, room, here } => {
+            RxPhase::Store {
+                first,
+                stored,
+                left,
+                at,
+                room,
+                here,
+            } => {
                 must(stored + left <= 2047)?;
                 must(left > 0 && room > 0 && at + room <= TWO_32)?;
                 let bytes = left.min(room).min(64);
-                let burst = Burst { direction: Direction::Store, address: at, bytes };
-                let (stored, left, here) = (stored + bytes, left - bytes, here + bytes);
+                let burst = Burst {
+                    direction: Direction::Store,
+                    address: at,
+                    bytes,
+                };
+                let (stored, left) = (stored + bytes, left - bytes);
+                let here = kept_to_32_bits(here + bytes);
                 let (at, room) = (at + bytes, room - bytes);
                 if room == 0 || left == 0 {
-                    self.rx = RxPhase::End { first, stored, left, room, here };
+                    self.rx = RxPhase::End {
+                        first,
+                        stored,
+                        left,
+                        room,
+                        here,
+                    };
                     return Ok((Some(burst), "receive 2, last burst"));
                 }
-                self.rx = RxPhase::Store { first, stored, left, at, room, here };
+                self.rx = RxPhase::Store {
+                    first,
+                    stored,
+                    left,
+                    at,
+                    room,
+                    here,
+                };
                 Ok((Some(burst), "receive 2, more to come"))
             }
             // "(3) Buffer full and bytes left: read next; nonzero, go there and 1; 0, latch
             // that 0, drop the rest and note overrun. Otherwise latch next."
-            RxPhase::End { first, stored, left, room, here } => {
+            RxPhase::End {
+                first,
+                stored,
+                left,
+                room,
+                here,
+            } => {
                 must(stored + left <= 2047)?;
                 must_be_good(hdp)?;
                 let next = memory.descriptor(hdp).next;
                 let full_and_bytes_left = room == 0 && left > 0;
                 if full_and_bytes_left && next != 0 {
                     self.registers.hdp[1] = next;
-                    self.rx = RxPhase::Fetch { first, stored, left };
+                    self.rx = RxPhase::Fetch {
+                        first,
+                        stored,
+                        left,
+                    };
                     return Ok((None, "receive 3, to the next descriptor"));
                 }
                 let overrun = full_and_bytes_left;
-                self.rx = RxPhase::Last { first, stored, here, next, overrun };
-                Ok((None, if overrun { "receive 3, overrun" } else { "receive 3, end of frame" }))
+                self.rx = RxPhase::Last {
+                    first,
+                    stored,
+                    here,
+                    next,
+                    overrun,
+                };
+                Ok((
+                    None,
+                    if overrun {
+                        "receive 3, overrun"
+                    } else {
+                        "receive 3, end of frame"
+                    },
+                ))
             }
             // "(4) In the last descriptor set EOP, length to the bytes stored there, and
             // EOQ if latched 0."
-            RxPhase::Last { first, stored, here, next, overrun } => {
+            RxPhase::Last {
+                first,
+                stored,
+                here,
+                next,
+                overrun,
+            } => {
                 must_be_good(hdp)?;
                 must(here <= 2047)?;
                 let word2 = memory.descriptor(hdp).word2;
                 memory.set_word(first_word(hdp) + 2, (word2 & !LOW_11) | here as u32);
                 change_word3(memory, hdp, |w| w | EOP);
-                self.rx = RxPhase::First { first, stored, next, overrun };
+                self.rx = RxPhase::First {
+                    first,
+                    stored,
+                    next,
+                    overrun,
+                };
                 if next != 0 {
                     return Ok((None, "receive 4, not the end"));
                 }
@@ -345,7 +545,12 @@ impl Controller {
             }
             // "(5) In the first set SOP, packet length to all bytes stored, bit 22 to the
             // overrun, and clear OWNER; other bits stay in 4 and 5."
-            RxPhase::First { first, stored, next, overrun } => {
+            RxPhase::First {
+                first,
+                stored,
+                next,
+                overrun,
+            } => {
                 must_be_good(first)?;
                 must(stored <= 2047)?;
                 change_word3(memory, first, |w| {
@@ -355,7 +560,14 @@ impl Controller {
                 });
                 self.received = self.received.saturating_add(stored);
                 self.rx = RxPhase::Done { next };
-                Ok((None, if overrun { "receive 5, overrun" } else { "receive 5" }))
+                Ok((
+                    None,
+                    if overrun {
+                        "receive 5, overrun"
+                    } else {
+                        "receive 5"
+                    },
+                ))
             }
             // "(6) CP and HDP as for transmit; 0 is idle, else wait."
             RxPhase::Done { next } => {
@@ -417,24 +629,52 @@ impl Controller {
                 self.stages[i] = 2;
                 if hdp == 0 {
                     let taken = "transmit teardown 1, HDP 0";
-                    return Ok((None, if transmit { taken } else { "receive teardown 1, HDP 0" }));
+                    return Ok((
+                        None,
+                        if transmit {
+                            taken
+                        } else {
+                            "receive teardown 1, HDP 0"
+                        },
+                    ));
                 }
                 must_be_good(hdp)?;
                 change_word3(memory, hdp, |w| w | TD);
                 let taken = "transmit teardown 1, TD set";
-                Ok((None, if transmit { taken } else { "receive teardown 1, TD set" }))
+                Ok((
+                    None,
+                    if transmit {
+                        taken
+                    } else {
+                        "receive teardown 1, TD set"
+                    },
+                ))
             }
             2 => {
                 self.registers.hdp[i] = 0;
                 self.make_idle(side);
                 self.stages[i] = 3;
-                Ok((None, if transmit { "transmit teardown 2" } else { "receive teardown 2" }))
+                Ok((
+                    None,
+                    if transmit {
+                        "transmit teardown 2"
+                    } else {
+                        "receive teardown 2"
+                    },
+                ))
             }
             _ => {
                 self.registers.cp[i] = TEARDOWN_CODE;
                 self.teardown_pending[i] = false;
                 self.stages[i] = 1;
-                Ok((None, if transmit { "transmit teardown 3" } else { "receive teardown 3" }))
+                Ok((
+                    None,
+                    if transmit {
+                        "transmit teardown 3"
+                    } else {
+                        "receive teardown 3"
+                    },
+                ))
             }
         }
     }
@@ -442,7 +682,9 @@ impl Controller {
     /// "Reset, when pending and both engines are so: bit cleared, engines idle, four
     /// registers await zero with their old values."
     fn step_reset(&mut self) -> Taken {
-        let both = Side::BOTH.into_iter().all(|side| self.between_packets(side));
+        let both = Side::BOTH
+            .into_iter()
+            .all(|side| self.between_packets(side));
         if !self.reset_pending || !both {
             return CANNOT_MOVE;
         }
@@ -471,7 +713,11 @@ impl Controller {
         if !taken {
             return 24;
         }
-        self.rx = RxPhase::Fetch { first: hdp, stored: 0, left: u64::from(length) };
+        self.rx = RxPhase::Fetch {
+            first: hdp,
+            stored: 0,
+            left: u64::from(length),
+        };
         0
     }
 
@@ -521,8 +767,8 @@ impl Controller {
         must(!self.teardown_pending[i])?; // 8
         must(value != 0)?; // 9
         must(self.registers.hdp[i] == 0)?; // 10
-        // "a start sets HDP ... and puts the transmit engine at step 1 or the receive
-        // engine to waiting"
+                                           // "a start sets HDP ... and puts the transmit engine at step 1 or the receive
+                                           // engine to waiting"
         self.registers.hdp[i] = value;
         match side {
             Side::Transmit => self.tx = TxPhase::New,
@@ -565,6 +811,12 @@ impl Controller {
         self.registers.reset_bit = true;
         Ok(())
     }
+}
+
+/// PROBE.md: "A packet's sum and `here` that would pass 2^32 - 1 stay at 2^32 - 1 (a sum so
+/// large equals no packet length)." No sequence from a fresh machine comes near.
+fn kept_to_32_bits(number: u64) -> u64 {
+    number.min(TWO_32 - 1)
 }
 
 /// A descriptor's word 3 changed in place.

@@ -18,7 +18,10 @@ impl External {
         if !path.is_file() {
             return Err(format!("no such program: {}", path.display()));
         }
-        Ok(External { path, limit: Duration::from_secs(60) })
+        Ok(External {
+            path,
+            limit: Duration::from_secs(60),
+        })
     }
 
     /// What it prints for this input. A program that cannot be run, is ended by a signal,
@@ -67,7 +70,11 @@ impl External {
             watch.thread().unpark();
             watch.join().unwrap()
         });
-        let status = child.lock().unwrap().wait().map_err(|e| format!("not waited for: {e}"))?;
+        let status = child
+            .lock()
+            .unwrap()
+            .wait()
+            .map_err(|e| format!("not waited for: {e}"))?;
         if late {
             return Err("took longer than a minute".to_string());
         }

@@ -23,11 +23,19 @@ pub struct Answer {
 }
 
 fn plain(judge: &'static str) -> Answer {
-    Answer { number: 0, effect: Effect::Plain, judge }
+    Answer {
+        number: 0,
+        effect: Effect::Plain,
+        judge,
+    }
 }
 
 fn refused(number: u8, judge: &'static str) -> Answer {
-    Answer { number, effect: Effect::None, judge }
+    Answer {
+        number,
+        effect: Effect::None,
+        judge,
+    }
 }
 
 /// "1: descriptor memory not 8,192 bytes, N out of range, or a kind byte over 4".
@@ -39,11 +47,11 @@ pub fn world_is_wrong(memory: &Memory, kinds: &[u8]) -> bool {
 }
 
 /// 1 and 2, after which nothing changes.
-fn not_to_be_judged(book: &Book, memory: &Memory, kinds: &[u8]) -> Option<u8> {
+fn not_to_be_judged(book: &Book, memory: &Memory, kinds: &[u8], variant: Variant) -> Option<u8> {
     if world_is_wrong(memory, kinds) {
         return Some(1);
     }
-    if !book.is_sound(memory) {
+    if !book.is_sound_in(memory, variant) {
         return Some(2);
     }
     None
@@ -59,7 +67,7 @@ pub fn guest_write(
     address: u32,
     value: u32,
 ) -> Answer {
-    if let Some(number) = not_to_be_judged(book, memory, kinds) {
+    if let Some(number) = not_to_be_judged(book, memory, kinds, variant) {
         return refused(number, "world");
     }
     book.release(memory, registers, variant);
@@ -123,7 +131,11 @@ fn judge_hdp(
             registers.hdp[i] = value;
             book.heads[i] = value;
             book.take_chain(memory, &chain, side);
-            Answer { number: 0, effect: Effect::Started(side), judge }
+            Answer {
+                number: 0,
+                effect: Effect::Started(side),
+                judge,
+            }
         }
     }
 }
@@ -242,7 +254,11 @@ fn judge_word(
             // "An append stores its word and adds words and lengths."
             memory.set_word(word, value);
             book.take_chain(memory, &chain, side);
-            Answer { number: 0, effect: Effect::Appended(side), judge }
+            Answer {
+                number: 0,
+                effect: Effect::Appended(side),
+                judge,
+            }
         }
     }
 }
@@ -371,7 +387,10 @@ fn judge_receive_descriptor(
 /// The bytes whose blocks 16 looks at: all of them.
 fn looked_at(range: Range, variant: Variant) -> Range {
     if variant == Variant::FirstByteOnly {
-        return Range { first: range.first, length: 1 };
+        return Range {
+            first: range.first,
+            length: 1,
+        };
     }
     range
 }
@@ -387,7 +406,7 @@ pub fn kind_change(
     block: u32,
     kind: u32,
 ) -> u8 {
-    if let Some(number) = not_to_be_judged(book, memory, kinds) {
+    if let Some(number) = not_to_be_judged(book, memory, kinds, variant) {
         return number;
     }
     book.release(memory, registers, variant);
@@ -412,11 +431,13 @@ pub fn kind_change(
 }
 
 fn block_in_reception(book: &Book, memory: &Memory, block: u64) -> bool {
-    book.queue(memory, Side::Receive).into_iter().any(|pointer| {
-        let handed_over = Range {
-            first: u64::from(memory.descriptor(pointer).buffer),
-            length: u64::from(book.lengths[first_word(pointer)]),
-        };
-        handed_over.touches_block(block)
-    })
+    book.queue(memory, Side::Receive)
+        .into_iter()
+        .any(|pointer| {
+            let handed_over = Range {
+                first: u64::from(memory.descriptor(pointer).buffer),
+                length: u64::from(book.lengths[first_word(pointer)]),
+            };
+            handed_over.touches_block(block)
+        })
 }

@@ -53,11 +53,21 @@ impl Machine {
         );
         if answer.number != 0 {
             let agree = memory == self.memory && registers == self.controller.registers;
-            return Written { answer, controller: None, agree };
+            return Written {
+                answer,
+                controller: None,
+                agree,
+            };
         }
-        let own = self.controller.unguarded_write(&mut self.memory, address, value);
+        let own = self
+            .controller
+            .unguarded_write(&mut self.memory, address, value);
         let agree = memory == self.memory && registers == self.controller.registers;
-        Written { answer, controller: Some(own), agree }
+        Written {
+            answer,
+            controller: Some(own),
+            agree,
+        }
     }
 
     pub fn kind_change(&mut self, block: u32, kind: u32) -> u8 {

@@ -74,7 +74,9 @@ impl Memory {
     }
 
     pub fn of_size(bytes: usize) -> Memory {
-        Memory { bytes: vec![0; bytes] }
+        Memory {
+            bytes: vec![0; bytes],
+        }
     }
 
     pub fn size_is_right(&self) -> bool {
@@ -140,7 +142,11 @@ impl Descriptor {
     /// "A buffer's first byte is the buffer pointer, plus the offset for a
     /// transmit SOP descriptor only."
     pub fn transmit_range(&self) -> Range {
-        let offset = if self.sop() { u64::from(self.word2 >> 16) } else { 0 };
+        let offset = if self.sop() {
+            u64::from(self.word2 >> 16)
+        } else {
+            0
+        };
         Range {
             first: u64::from(self.buffer) + offset,
             length: u64::from(self.word2 & 0xFFFF),

@@ -20,7 +20,11 @@ pub struct Monitored {
 
 impl Monitored {
     pub fn fresh(kinds: Vec<u8>, variant: Variant) -> Monitored {
-        Monitored { machine: Machine::fresh(kinds, variant), violation: None, operations: 0 }
+        Monitored {
+            machine: Machine::fresh(kinds, variant),
+            violation: None,
+            operations: 0,
+        }
     }
 
     fn complain(&mut self, what: String) {
@@ -44,9 +48,13 @@ impl Monitored {
         self.after_any(written.answer.number);
         if let Some(own) = written.controller {
             if own != 0 {
-                self.complain(format!("(a) the guard accepted a write that is {own} by the controller's own rules"));
+                self.complain(format!(
+                    "(a) the guard accepted a write that is {own} by the controller's own rules"
+                ));
             } else if !written.agree {
-                self.complain("guard and controller leave different registers or memory".to_string());
+                self.complain(
+                    "guard and controller leave different registers or memory".to_string(),
+                );
             }
         } else if !written.agree {
             self.complain("a refused write changed registers or memory".to_string());
@@ -71,7 +79,10 @@ impl Monitored {
         let report = self.machine.step(engine);
         self.after_any(report.answer);
         if let Some(burst) = report.burst {
-            let range = Range { first: burst.address, length: burst.bytes };
+            let range = Range {
+                first: burst.address,
+                length: burst.bytes,
+            };
             let kinds = &self.machine.kinds;
             match burst.direction {
                 Direction::Read if !range.blocks_all(kinds, owned_by_linux) => {

@@ -53,7 +53,13 @@ pub fn call_taken(call: u8) -> u8 {
 }
 
 pub fn call_name(call: u8) -> &'static str {
-    ["guest write", "kind change", "frame", "step", "unguarded write"][call_taken(call) as usize]
+    [
+        "guest write",
+        "kind change",
+        "frame",
+        "step",
+        "unguarded write",
+    ][call_taken(call) as usize]
 }
 
 /// "any other is taken modulo 5".
@@ -92,16 +98,25 @@ pub fn run_case(case: &Case, variant: Variant) -> Outcome {
             (number, "kind change")
         }
         FRAME => (after.controller.frame(a), "frame"),
-        UNGUARDED => {
-            (after.controller.unguarded_write(&mut after.memory, a, b), "unguarded write")
-        }
+        UNGUARDED => (
+            after.controller.unguarded_write(&mut after.memory, a, b),
+            "unguarded write",
+        ),
         _ => {
-            let report = after.controller.step(&mut after.memory, engine_taken(a), variant);
+            let report = after
+                .controller
+                .step(&mut after.memory, engine_taken(a), variant);
             burst = report.burst;
             (report.answer, report.taken)
         }
     };
-    Outcome { number, effect, burst, label, after }
+    Outcome {
+        number,
+        effect,
+        burst,
+        label,
+        after,
+    }
 }
 
 // ---------------------------------------------------------------- reading
@@ -168,7 +183,17 @@ pub fn read_case(input: &mut &[u8]) -> Option<Case> {
     let book = read_book(&mut r)?;
     let controller = read_controller(&mut r)?;
     *input = r.rest;
-    Some(Case { call, a, b, state: State { memory, kinds, book, controller } })
+    Some(Case {
+        call,
+        a,
+        b,
+        state: State {
+            memory,
+            kinds,
+            book,
+            controller,
+        },
+    })
 }
 
 fn read_memory(r: &mut Reader) -> Option<Memory> {
@@ -237,8 +262,22 @@ pub fn tx_phase(tag: u8, numbers: [u32; 7]) -> TxPhase {
         0 => TxPhase::Idle,
         1 => TxPhase::New,
         2 => TxPhase::Middle { sop, word3, sum },
-        3 => TxPhase::Burst { sop, word3, sum, at, left, next, eop },
-        4 => TxPhase::End { sop, word3, sum, next, eop },
+        3 => TxPhase::Burst {
+            sop,
+            word3,
+            sum,
+            at,
+            left,
+            next,
+            eop,
+        },
+        4 => TxPhase::End {
+            sop,
+            word3,
+            sum,
+            next,
+            eop,
+        },
         5 => TxPhase::Mark { sop, word3, next },
         6 => TxPhase::Own { sop, word3, next },
         _ => TxPhase::Done { next },
@@ -252,12 +291,22 @@ pub fn tx_numbers(phase: &TxPhase) -> [u64; 8] {
         TxPhase::Idle => [0, 0, 0, 0, 0, 0, 0, 0],
         TxPhase::New => [1, 0, 0, 0, 0, 0, 0, 0],
         TxPhase::Middle { sop, word3, sum } => [2, w(sop), w(word3), sum, 0, 0, 0, 0],
-        TxPhase::Burst { sop, word3, sum, at, left, next, eop } => {
-            [3, w(sop), w(word3), sum, at, left, w(next), eop as u64]
-        }
-        TxPhase::End { sop, word3, sum, next, eop } => {
-            [4, w(sop), w(word3), sum, 0, 0, w(next), eop as u64]
-        }
+        TxPhase::Burst {
+            sop,
+            word3,
+            sum,
+            at,
+            left,
+            next,
+            eop,
+        } => [3, w(sop), w(word3), sum, at, left, w(next), eop as u64],
+        TxPhase::End {
+            sop,
+            word3,
+            sum,
+            next,
+            eop,
+        } => [4, w(sop), w(word3), sum, 0, 0, w(next), eop as u64],
         TxPhase::Mark { sop, word3, next } => [5, w(sop), w(word3), 0, 0, 0, w(next), 0],
         TxPhase::Own { sop, word3, next } => [6, w(sop), w(word3), 0, 0, 0, w(next), 0],
         TxPhase::Done { next } => [7, 0, 0, 0, 0, 0, w(next), 0],
@@ -272,11 +321,39 @@ pub fn rx_phase(tag: u8, numbers: [u32; 7], overrun: bool) -> RxPhase {
     match tag % 8 {
         0 => RxPhase::Idle,
         1 => RxPhase::Wait,
-        2 => RxPhase::Fetch { first, stored, left },
-        3 => RxPhase::Store { first, stored, left, at, room, here },
-        4 => RxPhase::End { first, stored, left, room, here },
-        5 => RxPhase::Last { first, stored, here, next, overrun },
-        6 => RxPhase::First { first, stored, next, overrun },
+        2 => RxPhase::Fetch {
+            first,
+            stored,
+            left,
+        },
+        3 => RxPhase::Store {
+            first,
+            stored,
+            left,
+            at,
+            room,
+            here,
+        },
+        4 => RxPhase::End {
+            first,
+            stored,
+            left,
+            room,
+            here,
+        },
+        5 => RxPhase::Last {
+            first,
+            stored,
+            here,
+            next,
+            overrun,
+        },
+        6 => RxPhase::First {
+            first,
+            stored,
+            next,
+            overrun,
+        },
         _ => RxPhase::Done { next },
     }
 }
@@ -287,19 +364,39 @@ pub fn rx_numbers(phase: &RxPhase) -> [u64; 9] {
     match *phase {
         RxPhase::Idle => [0, 0, 0, 0, 0, 0, 0, 0, 0],
         RxPhase::Wait => [1, 0, 0, 0, 0, 0, 0, 0, 0],
-        RxPhase::Fetch { first, stored, left } => [2, w(first), stored, left, 0, 0, 0, 0, 0],
-        RxPhase::Store { first, stored, left, at, room, here } => {
-            [3, w(first), stored, left, at, room, here, 0, 0]
-        }
-        RxPhase::End { first, stored, left, room, here } => {
-            [4, w(first), stored, left, 0, room, here, 0, 0]
-        }
-        RxPhase::Last { first, stored, here, next, overrun } => {
-            [5, w(first), stored, 0, 0, 0, here, w(next), overrun as u64]
-        }
-        RxPhase::First { first, stored, next, overrun } => {
-            [6, w(first), stored, 0, 0, 0, 0, w(next), overrun as u64]
-        }
+        RxPhase::Fetch {
+            first,
+            stored,
+            left,
+        } => [2, w(first), stored, left, 0, 0, 0, 0, 0],
+        RxPhase::Store {
+            first,
+            stored,
+            left,
+            at,
+            room,
+            here,
+        } => [3, w(first), stored, left, at, room, here, 0, 0],
+        RxPhase::End {
+            first,
+            stored,
+            left,
+            room,
+            here,
+        } => [4, w(first), stored, left, 0, room, here, 0, 0],
+        RxPhase::Last {
+            first,
+            stored,
+            here,
+            next,
+            overrun,
+        } => [5, w(first), stored, 0, 0, 0, here, w(next), overrun as u64],
+        RxPhase::First {
+            first,
+            stored,
+            next,
+            overrun,
+        } => [6, w(first), stored, 0, 0, 0, 0, w(next), overrun as u64],
         RxPhase::Done { next } => [7, 0, 0, 0, 0, 0, 0, w(next), 0],
     }
 }
@@ -331,7 +428,12 @@ pub fn print_outcome(outcome: &Outcome) -> String {
 }
 
 fn print_state(state: &State, out: &mut String) {
-    let State { memory, kinds, book, controller } = state;
+    let State {
+        memory,
+        kinds,
+        book,
+        controller,
+    } = state;
     write!(out, "M {}", memory.bytes.len()).unwrap();
     for word in 0..memory.words() {
         let value = memory.word(word);
@@ -361,8 +463,12 @@ fn print_state(state: &State, out: &mut String) {
         write!(out, " {i}:{v}").unwrap();
     }
     let r = &controller.registers;
-    writeln!(out, "\nR {} {} {} {} {}", r.hdp[0], r.hdp[1], r.cp[0], r.cp[1], r.reset_bit as u8)
-        .unwrap();
+    writeln!(
+        out,
+        "\nR {} {} {} {} {}",
+        r.hdp[0], r.hdp[1], r.cp[0], r.cp[1], r.reset_bit as u8
+    )
+    .unwrap();
     writeln!(
         out,
         "C {} {} {} {} {} {} {} {}",
@@ -411,13 +517,20 @@ pub fn run(mut input: &[u8], variant: Variant) -> String {
 
 /// A case as bytes that `read_case` reads back to the same case.
 pub fn write_case(case: &Case) -> Vec<u8> {
-    let State { memory, kinds, book, controller } = &case.state;
+    let State {
+        memory,
+        kinds,
+        book,
+        controller,
+    } = &case.state;
     let mut out = vec![case.call];
     out.extend(case.a.to_le_bytes());
     out.extend(case.b.to_le_bytes());
 
     out.extend((memory.bytes.len() as u16).to_le_bytes());
-    let words: Vec<usize> = (0..memory.words()).filter(|&w| memory.word(w) != 0).collect();
+    let words: Vec<usize> = (0..memory.words())
+        .filter(|&w| memory.word(w) != 0)
+        .collect();
     out.extend((words.len() as u16).to_le_bytes());
     for word in words {
         out.extend((word as u16).to_le_bytes());

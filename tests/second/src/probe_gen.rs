@@ -6,19 +6,31 @@ use crate::controller::{Controller, RxPhase, TxPhase};
 use crate::memory::*;
 use crate::probe::{self, rx_numbers, rx_phase, tx_numbers, tx_phase, Case, State};
 use crate::rng::Rng;
-use crate::traffic::{random_kinds, Guest, Profile, CP, DMACONTROL, HDP, RX_BUFFER_OFFSET, SOFT_RESET, TEARDOWN};
+use crate::traffic::{
+    block_between, random_kinds, Guest, Profile, CP, DMACONTROL, HDP, RX_BUFFER_OFFSET, SOFT_RESET,
+    TEARDOWN,
+};
 use crate::variant::Variant;
 
 /// The same case in other bytes: what PROBE.md says is ignored, passed over, clamped or
 /// taken modulo is used here.
 pub fn write_noisy(case: &Case, rng: &mut Rng) -> Vec<u8> {
-    let State { memory, kinds, book, controller } = &case.state;
+    let State {
+        memory,
+        kinds,
+        book,
+        controller,
+    } = &case.state;
     let mut out = vec![case.call];
     out.extend(case.a.to_le_bytes());
     out.extend(case.b.to_le_bytes());
     // "over 8,200 is taken as 8,200"
     let size = memory.bytes.len();
-    let shown = if size == probe::MEMORY_LIMIT { rng.between(8_200, 65_535) as usize } else { size };
+    let shown = if size == probe::MEMORY_LIMIT {
+        rng.between(8_200, 65_535) as usize
+    } else {
+        size
+    };
     out.extend((shown as u16).to_le_bytes());
     let mut entries: Vec<(u16, u32)> = Vec::new();
     for word in (0..memory.words()).filter(|&w| memory.word(w) != 0) {
@@ -72,7 +84,11 @@ pub fn write_noisy(case: &Case, rng: &mut Rng) -> Vec<u8> {
     for stage in controller.stages {
         // "1, 2, else 3"
         let other = noise(0xFF);
-        out.push(if stage == 3 && other != 1 && other != 2 { other } else { stage });
+        out.push(if stage == 3 && other != 1 && other != 2 {
+            other
+        } else {
+            stage
+        });
     }
     out.push(controller.undefined as u8 | noise(0xFE));
     out.extend(controller.sent.to_le_bytes());
@@ -108,7 +124,11 @@ pub fn write_noisy(case: &Case, rng: &mut Rng) -> Vec<u8> {
     }
     let unused = rx_phase(rx[0] as u8, seven, true) == rx_phase(rx[0] as u8, seven, false);
     let other = rng.u32() as u8;
-    out.push(if unused { other } else { rx[8] as u8 | (other & 0xFE) });
+    out.push(if unused {
+        other
+    } else {
+        rx[8] as u8 | (other & 0xFE)
+    });
     out
 }
 
@@ -117,16 +137,24 @@ pub struct Maker {
     /// A machine that traffic moves along, and the run it belongs to.
     guest: Guest,
     left_in_run: u32,
+    /// Where the last made state's loose chains start.
+    starts: [Option<u32>; 2],
 }
 
 impl Maker {
     pub fn new(seed: u64) -> Maker {
         let mut rng = Rng::new(seed);
         let guest = new_guest(&mut rng);
-        Maker { rng, guest, left_in_run: 40 }
+        Maker {
+            rng,
+            guest,
+            left_in_run: 40,
+            starts: [None, None],
+        }
     }
 
     pub fn case(&mut self) -> Case {
+        self.starts = [None, None];
         let mut state = match self.rng.below(10) {
             0..=3 => self.reached_state(),
             4..=8 => self.made_state(),
@@ -186,8 +214,17 @@ impl Maker {
         let mut memory = Memory::fresh();
         let mut book = Book::fresh();
         let mut taken = vec![false; DESC_WORDS];
-        let region = if self.rng.percent(70) { 40 + self.rng.index(60) } else { DESC_WORDS };
-        let base = self.rng.pick(&[0, 0, DESC_WORDS - region, self.rng.clone().index(DESC_WORDS - region + 1)]);
+        let region = if self.rng.percent(70) {
+            40 + self.rng.index(60)
+        } else {
+            DESC_WORDS
+        };
+        let base = self.rng.pick(&[
+            0,
+            0,
+            DESC_WORDS - region,
+            self.rng.clone().index(DESC_WORDS - region + 1),
+        ]);
         let mut queues = [Vec::new(), Vec::new()];
         for side in Side::BOTH {
             let count = self.rng.pick(&[0usize, 1, 1, 2, 3, 4, 6]);
@@ -208,7 +245,9 @@ impl Maker {
                     book.in_use[first_word(at) + w] = 1;
                 }
                 if side == Side::Receive {
-                    let length = self.rng.pick(&[1, 2047, 64, 1 + self.rng.clone().below(2047) as u16]);
+                    let length =
+                        self.rng
+                            .pick(&[1, 2047, 64, 1 + self.rng.clone().below(2047) as u16]);
                     book.lengths[first_word(at)] = length;
                 }
             }
@@ -219,17 +258,28 @@ impl Maker {
                 self.loose_chain(side, base, region, &mut taken, &mut memory, &kinds);
             }
         }
-        book.marks = if self.rng.percent(85) { Marks::ALL } else { self.some_marks() };
+        book.marks = if self.rng.percent(85) {
+            Marks::ALL
+        } else {
+            self.some_marks()
+        };
         book.reset_pending = self.rng.percent(12);
         book.teardown_pending = [self.rng.percent(12), self.rng.percent(12)];
         let controller = self.some_controller(&memory, &queues, &kinds);
-        State { memory, kinds, book, controller }
+        State {
+            memory,
+            kinds,
+            book,
+            controller,
+        }
     }
 
     /// Anything at all.
     fn arbitrary_state(&mut self) -> State {
         let size = match self.rng.below(6) {
-            0 => self.rng.pick(&[0usize, 4, 8188, 8191, 8193, 8196, 8199, 8200]),
+            0 => self
+                .rng
+                .pick(&[0usize, 4, 8188, 8191, 8193, 8196, 8199, 8200]),
             1 => self.rng.between(0, 8200) as usize,
             _ => DESC_BYTES,
         };
@@ -270,7 +320,12 @@ impl Maker {
         book.teardown_pending = [self.rng.percent(50), self.rng.percent(50)];
         let queues = [Vec::new(), Vec::new()];
         let controller = self.some_controller(&memory, &queues, &kinds);
-        State { memory, kinds, book, controller }
+        State {
+            memory,
+            kinds,
+            book,
+            controller,
+        }
     }
 
     /// One thing about a state is changed.
@@ -407,14 +462,46 @@ impl Maker {
                 c.reset_pending = self.rng.percent(10);
                 c.teardown_pending[1] = self.rng.percent(10);
             }
+            probe::STEP if self.rng.percent(12) => {
+                // A middle descriptor is fetched; the sum is near 2^32 or far from it.
+                let hdp = DESC_START + 4 * self.rng.below(100) as u32;
+                if state.memory.size_is_right() {
+                    let length = self.rng.between(1, 300) as u32;
+                    let word3 = self.rng.pick(&[0, OWNER, OWNER, EOP]);
+                    let words = [
+                        self.rng.pick(&[4, hdp, 0x4A10_2000]),
+                        0x8000_0000,
+                        length,
+                        word3,
+                    ];
+                    for w in 0..4 {
+                        state.memory.set_word(first_word(hdp) + w, words[w]);
+                    }
+                }
+                c.registers.hdp[0] = hdp;
+                let near = u64::from(u32::MAX) - self.rng.below(300);
+                let sum = self.rng.pick(&[near, near, 60]);
+                c.tx = TxPhase::Middle {
+                    sop: DESC_START,
+                    word3: SOP | OWNER | 100,
+                    sum,
+                };
+                c.rx = RxPhase::Idle;
+                c.teardown_pending = [false, false];
+                c.reset_pending = false;
+            }
             probe::STEP => {
                 // Ready for a teardown step or the reset.
                 let pending = self.rng.percent(80);
                 c.teardown_pending[i] = pending;
                 c.reset_pending = self.rng.percent(50);
                 c.stages[i] = self.rng.between(1, 3) as u8;
-                c.tx = self.rng.pick(&[TxPhase::Idle, TxPhase::New, TxPhase::New, c.tx]);
-                c.rx = self.rng.pick(&[RxPhase::Idle, RxPhase::Wait, RxPhase::Wait, c.rx]);
+                c.tx = self
+                    .rng
+                    .pick(&[TxPhase::Idle, TxPhase::New, TxPhase::New, c.tx]);
+                c.rx = self
+                    .rng
+                    .pick(&[RxPhase::Idle, RxPhase::Wait, RxPhase::Wait, c.rx]);
                 if self.rng.percent(25) {
                     c.registers.hdp[i] = self.rng.pick(&[4, 0x4A10_3FF4, 0x4A10_2002, 0x8000_0000]);
                 }
@@ -447,30 +534,53 @@ impl Maker {
             (2, _) => TD | OWNER,
             (3, _) => 0,
             (4, _) => self.rng.u32() & 0xF800_0000,
-            (_, Side::Transmit) => self.rng.pick(&[SOP | EOP | OWNER, SOP | OWNER, EOP, OWNER | EOP]),
+            (_, Side::Transmit) => {
+                self.rng
+                    .pick(&[SOP | EOP | OWNER, SOP | OWNER, EOP, OWNER | EOP])
+            }
             (_, Side::Receive) => OWNER,
         };
-        let (buffer, length) = self.some_buffer(kinds);
-        let offset = if self.rng.percent(10) { self.rng.u32() & 0xFFFF_0000 } else { 0 };
-        let packet = if self.rng.percent(80) { length & LOW_11 } else { self.rng.u32() & LOW_11 };
-        let free_bits = if self.rng.percent(20) { self.rng.u32() & 0x07FF_F800 } else { 0 };
+        let (mut buffer, length) = self.some_buffer(kinds);
+        let offset = if self.rng.percent(10) {
+            self.rng.u32() & 0xFFFF_0000
+        } else {
+            0
+        };
+        if offset != 0 && self.rng.percent(30) {
+            buffer = 0xFFFF_0000 | self.rng.u32();
+        }
+        let packet = if self.rng.percent(80) {
+            length & LOW_11
+        } else {
+            self.rng.u32() & LOW_11
+        };
+        let free_bits = if self.rng.percent(40) {
+            self.rng.u32() & 0x07FF_F800
+        } else {
+            0
+        };
         [next, buffer, offset | length, flags | free_bits | packet]
     }
 
     fn some_buffer(&mut self, kinds: &[u8]) -> (u32, u32) {
         let length = match self.rng.below(10) {
-            0 => self.rng.pick(&[0, 1, 2, 63, 64, 65, 2047, 2048, 4096, 65535]),
+            0 => self
+                .rng
+                .pick(&[0, 1, 2, 63, 64, 65, 2047, 2048, 4096, 65535]),
             1 => self.rng.u32() & 0xFFFF,
             _ => self.rng.between(1, 300) as u32,
         };
         let n = kinds.len().max(1) as u64;
         let buffer = match self.rng.below(12) {
-            0 => self.rng.pick(&[0, 0x7FFF_FFFF, 0xFFFF_FFFF, 0xFFFF_FFC0, 0xFFFF_F000]),
+            0 => self
+                .rng
+                .pick(&[0, 0x7FFF_FFFF, 0xFFFF_FFFF, 0xFFFF_FFC0, 0xFFFF_F000]),
             1 => self.rng.u32(),
             2 | 3 => {
                 // Near the end of a block.
                 let block = self.rng.below(n) + 1;
-                (RAM_START + block * BLOCK_BYTES - u64::from(length).min(4096) + self.rng.below(3) - 1) as u32
+                (RAM_START + block * BLOCK_BYTES - u64::from(length).min(4096) + self.rng.below(3)
+                    - 1) as u32
             }
             _ => (RAM_START + self.rng.below(n) * BLOCK_BYTES + self.rng.below(3800)) as u32,
         };
@@ -501,11 +611,18 @@ impl Maker {
         let mut words: Vec<[u32; 4]> = Vec::new();
         for i in 0..count {
             let next = places.get(i + 1).copied().unwrap_or(0);
-            let wanted: fn(u8) -> bool = if side == Side::Transmit { owned_by_linux } else { linux_data };
+            let wanted: fn(u8) -> bool = if side == Side::Transmit {
+                owned_by_linux
+            } else {
+                linux_data
+            };
             let (mut buffer, mut length) = self.some_buffer(kinds);
             // Mostly permitted.
             for _ in 0..30 {
-                let range = Range { first: u64::from(buffer), length: u64::from(length) };
+                let range = Range {
+                    first: u64::from(buffer),
+                    length: u64::from(length),
+                };
                 let fits = side == Side::Transmit || length <= 2047;
                 if length > 0 && fits && range.blocks_all(kinds, wanted) {
                     break;
@@ -540,18 +657,55 @@ impl Maker {
         }
         if self.rng.percent(60) {
             let i = self.rng.index(count);
-            match self.rng.below(8) {
-                7 => words[i][2] = if side == Side::Receive { 0x0001_0000 | words[i][2] } else { words[i][2] & 0xFFFF_0000 },
+            match self.rng.below(12) {
+                8 => {
+                    // Two faults in one descriptor.
+                    words[i][0] = self.rng.pick(&[4, 0x4A10_3FF4, 0x4A10_2002]);
+                    words[i][3] ^= self.rng.pick(&[1, 2, OWNER]);
+                }
+                9 if side == Side::Transmit => {
+                    // Over three blocks or more.
+                    let block = block_between(kinds, &mut self.rng);
+                    words[i][1] = (RAM_START + block * BLOCK_BYTES - 1) as u32;
+                    words[i][2] = self.rng.between(0x1001, 0x1003) as u32;
+                }
+                10 if side == Side::Transmit => {
+                    // Pointer and offset together pass 2^32 - 1, or just do not.
+                    let length = words[i][2] & 0xFFFF;
+                    words[i][1] = 0xFFFF_FFF0;
+                    let offset = self
+                        .rng
+                        .pick(&[0x10u32, 0x20, 0x10u32.wrapping_sub(length)])
+                        & 0xFFFF;
+                    words[i][2] = (offset << 16) | length;
+                }
+                7 => {
+                    words[i][2] = if side == Side::Receive {
+                        0x0001_0000 | words[i][2]
+                    } else {
+                        words[i][2] & 0xFFFF_0000
+                    }
+                }
                 0 => words[i][0] = self.some_head(),
                 1 if self.rng.percent(50) => words[i][0] = places[0],
                 1 => words[i][3] ^= self.rng.pick(&[SOP, EOP, OWNER, EOQ, TD]),
                 2 => words[i][2] ^= 1 << self.rng.below(32),
-                3 => words[i][2] = if side == Side::Receive { self.rng.pick(&[0, 0x800, 0x0001_0001, 0x0400_0010]) } else { 0 },
+                3 => {
+                    words[i][2] = if side == Side::Receive {
+                        self.rng.pick(&[0, 0x800, 0x0001_0001, 0x0400_0010])
+                    } else {
+                        0
+                    }
+                }
                 4 => words[i][1] = self.rng.pick(&[0, 0xFFFF_FFFF, 0xFFFF_FFFE, 0x7FFF_FFFF]),
                 5 => words[i][3] ^= 1,
-                _ => words[i][0] = places[self.rng.index(count)].wrapping_add(self.rng.pick(&[0, 4, 8, 12])),
+                _ => {
+                    words[i][0] =
+                        places[self.rng.index(count)].wrapping_add(self.rng.pick(&[0, 4, 8, 12]))
+                }
             }
         }
+        self.starts[side.index()] = Some(places[0]);
         for (at, words) in places.iter().zip(&words) {
             for w in 0..4 {
                 memory.set_word(first_word(*at) + w, words[w]);
@@ -570,7 +724,14 @@ impl Maker {
         match self.rng.below(6) {
             0 => 0,
             1 => self.rng.pick(&[
-                0x4A10_1FFC, 0x4A10_3FF4, 0x4A10_4000, 0x4A10_2001, 0x4A10_3FF0, 4, 0x8000_0000, 0xFFFF_FFFC,
+                0x4A10_1FFC,
+                0x4A10_3FF4,
+                0x4A10_4000,
+                0x4A10_2001,
+                0x4A10_3FF0,
+                4,
+                0x8000_0000,
+                0xFFFF_FFFC,
             ]),
             2 => DESC_START + 4 * self.rng.below(2048) as u32,
             _ => DESC_START + 4 * self.rng.below(100) as u32,
@@ -581,7 +742,9 @@ impl Maker {
         match self.rng.below(5) {
             0 => self.rng.u32(),
             1 => self.some_head(),
-            2 => self.rng.pick(&[OWNER, SOP | EOP | OWNER | 60, 60, 0, TD, EOQ | EOP]),
+            2 => self
+                .rng
+                .pick(&[OWNER, SOP | EOP | OWNER | 60, 60, 0, TD, EOQ | EOP]),
             3 => 0x8000_0000 + self.rng.below(0x8000) as u32,
             _ => 0,
         }
@@ -590,7 +753,13 @@ impl Maker {
     fn some_number(&mut self) -> u32 {
         match self.rng.below(8) {
             0 => self.rng.pick(&[0, 1, 63, 64, 65, 2046, 2047, 2048]),
-            1 => self.rng.pick(&[0xFFFF_FFFF, 0xFFFF_FFFE, 0xFFFF_FFC0, 0x8000_0000, 0x7FFF_FFFF]),
+            1 => self.rng.pick(&[
+                0xFFFF_FFFF,
+                0xFFFF_FFFE,
+                0xFFFF_FFC0,
+                0x8000_0000,
+                0x7FFF_FFFF,
+            ]),
             2 => self.some_head(),
             3 => self.rng.u32(),
             _ => self.rng.between(0, 300) as u32,
@@ -606,7 +775,12 @@ impl Maker {
     }
 
     /// Registers, flags and phases; mostly fit for the queues given.
-    fn some_controller(&mut self, memory: &Memory, queues: &[Vec<u32>; 2], kinds: &[u8]) -> Controller {
+    fn some_controller(
+        &mut self,
+        memory: &Memory,
+        queues: &[Vec<u32>; 2],
+        kinds: &[u8],
+    ) -> Controller {
         let mut c = Controller::fresh();
         for i in 0..2 {
             c.registers.hdp[i] = match self.rng.below(8) {
@@ -622,10 +796,18 @@ impl Maker {
                 _ => 0,
             };
             c.teardown_pending[i] = self.rng.percent(25);
-            c.stages[i] = if self.rng.percent(60) { 1 } else { self.rng.between(1, 3) as u8 };
+            c.stages[i] = if self.rng.percent(60) {
+                1
+            } else {
+                self.rng.between(1, 3) as u8
+            };
         }
         c.registers.reset_bit = self.rng.percent(20);
-        c.marks = if self.rng.percent(75) { Marks::ALL } else { self.some_marks() };
+        c.marks = if self.rng.percent(75) {
+            Marks::ALL
+        } else {
+            self.some_marks()
+        };
         c.reset_pending = self.rng.percent(20);
         c.undefined = self.rng.percent(3);
         if self.rng.percent(30) {
@@ -640,7 +822,16 @@ impl Maker {
     fn some_tx_phase(&mut self, memory: &Memory, hdp: u32, kinds: &[u8]) -> TxPhase {
         let tag = self.rng.below(8) as u8;
         let (at, left) = self.some_buffer(kinds);
-        let sop = if self.rng.percent(85) { DESC_START + 4 * self.rng.below(100) as u32 } else { self.some_head() };
+        let sop = if self.rng.percent(85) {
+            DESC_START + 4 * self.rng.below(100) as u32
+        } else {
+            self.some_head()
+        };
+        let sop = if tag == 6 && self.rng.percent(15) {
+            self.rng.pick(&[0, 4, 0x4A10_3FF4])
+        } else {
+            sop
+        };
         let sum = self.rng.between(1, 500) as u32;
         let mut word3 = SOP | OWNER | self.rng.between(1, 2047) as u32;
         if tag == 2 && is_good(hdp) && memory.size_is_right() && self.rng.percent(80) {
@@ -648,8 +839,15 @@ impl Maker {
             let own = memory.descriptor(hdp).word2 & 0xFFFF;
             word3 = SOP | OWNER | ((sum + own) & LOW_11);
         }
-        let next = if self.rng.percent(40) { 0 } else { self.some_head() };
+        let next = if self.rng.percent(40) {
+            0
+        } else {
+            self.some_head()
+        };
         let mut numbers = [sop, word3, sum, at, left, next, self.rng.u32()];
+        if tag == 2 && self.rng.percent(20) {
+            numbers[2] = u32::MAX - self.rng.below(300) as u32;
+        }
         if tag == 3 && self.rng.percent(15) {
             // Just fits below 2^32, or passes it by one.
             let left = self.rng.between(1, 200) as u32;
@@ -666,13 +864,30 @@ impl Maker {
     fn some_rx_phase(&mut self, hdp: u32, kinds: &[u8]) -> RxPhase {
         let tag = self.rng.below(8) as u8;
         let (at, room) = self.some_buffer(kinds);
-        let first = if self.rng.percent(40) { hdp } else { DESC_START + 4 * self.rng.below(100) as u32 };
+        let first = if self.rng.percent(40) {
+            hdp
+        } else {
+            DESC_START + 4 * self.rng.below(100) as u32
+        };
         let stored = self.rng.between(0, 1000) as u32;
-        let left = self.rng.pick(&[0, 1, 64, 65, 200, 1000, 2047 - stored, 2048 - stored]);
+        let left = self
+            .rng
+            .pick(&[0, 1, 64, 65, 200, 1000, 2047 - stored, 2048 - stored]);
         let here = self.rng.between(0, 1000) as u32;
-        let room = if tag == 4 && self.rng.percent(60) { 0 } else { room };
-        let next = if self.rng.percent(40) { 0 } else { self.some_head() };
+        let room = if tag == 4 && self.rng.percent(60) {
+            0
+        } else {
+            room
+        };
+        let next = if self.rng.percent(40) {
+            0
+        } else {
+            self.some_head()
+        };
         let mut numbers = [first, stored, left, at, room, here, next];
+        if tag == 3 && self.rng.percent(15) {
+            numbers[5] = u32::MAX - self.rng.below(70) as u32;
+        }
         if tag == 3 && self.rng.percent(15) {
             let room = self.rng.between(1, 200) as u32;
             numbers[3] = (0u32.wrapping_sub(room)).wrapping_add(self.rng.below(2) as u32);
@@ -702,21 +917,45 @@ impl Maker {
             }
             7 | 8 => (TEARDOWN[i], self.rng.pick(&[0, 0, 0, 1])),
             9 => (SOFT_RESET, self.rng.pick(&[1, 1, 1, 0, 2])),
-            10 => (self.rng.pick(&[DMACONTROL, RX_BUFFER_OFFSET]), self.rng.pick(&[0, 1, 0x8000_0000])),
+            10 => (
+                self.rng.pick(&[DMACONTROL, RX_BUFFER_OFFSET]),
+                self.rng.pick(&[0, 1, 0x8000_0000]),
+            ),
             11 => {
                 let addresses = [
-                    0x4A10_0804, 0x4A10_0814, 0x4A10_0888, 0x4A10_088C, 0x4A10_0894, 0x4A10_08A8,
-                    0x4A10_08AC, 0x4A10_07FC, 0x4A10_0900, 0x4A10_09FC, 0x4A10_0A80, 0x4A10_1FFC,
-                    0x4A10_4000, 0x4A10_2002, 0x4A10_0A01, 0x4A10_08FC, 0x4A10_0A7C, 0xFFFF_FFFF,
+                    0x4A10_0804,
+                    0x4A10_0814,
+                    0x4A10_0888,
+                    0x4A10_088C,
+                    0x4A10_0894,
+                    0x4A10_08A8,
+                    0x4A10_08AC,
+                    0x4A10_07FC,
+                    0x4A10_0900,
+                    0x4A10_09FC,
+                    0x4A10_0A80,
+                    0x4A10_1FFC,
+                    0x4A10_4000,
+                    0x4A10_2002,
+                    0x4A10_0A01,
+                    0x4A10_08FC,
+                    0x4A10_0A7C,
+                    0xFFFF_FFFF,
                 ];
                 (self.rng.pick(&addresses), self.rng.u32())
             }
-            12 => (0x4A10_0800 + self.rng.below(0x280) as u32, self.rng.pick(&[0, 1])),
+            12 => (
+                0x4A10_0800 + self.rng.below(0x280) as u32,
+                self.rng.pick(&[0, 1]),
+            ),
             13 | 14 => {
                 let word = self.used_or_any_word(&state.book) as u32;
                 (DESC_START + 4 * word, self.some_value())
             }
-            _ => (DESC_START + 4 * self.rng.below(2048) as u32, self.some_value()),
+            _ => (
+                DESC_START + 4 * self.rng.below(2048) as u32,
+                self.some_value(),
+            ),
         }
     }
 
@@ -724,6 +963,11 @@ impl Maker {
     fn some_start(&mut self, state: &State, side: Side) -> u32 {
         if self.rng.percent(15) || !state.memory.size_is_right() {
             return self.some_head();
+        }
+        if let Some(start) = self.starts[side.index()] {
+            if self.rng.percent(75) {
+                return start;
+            }
         }
         let flags = |w: usize| state.memory.word(w + 3) & 0xF800_0000;
         let likely: Vec<u32> = (0..DESC_WORDS - 3)
@@ -764,7 +1008,9 @@ impl Maker {
         let n = state.kinds.len() as u64;
         let receive_head = state.book.head(Side::Receive);
         let block = match self.rng.below(8) {
-            0 => self.rng.pick(&[n as u32, n as u32 + 1, 0xFFFF, 0xFFFF_FFFF, 0x10000]),
+            0 => self
+                .rng
+                .pick(&[n as u32, n as u32 + 1, 0xFFFF, 0xFFFF_FFFF, 0x10000]),
             1..=4 if is_good(receive_head) && state.memory.size_is_right() => {
                 let buffer = u64::from(state.memory.descriptor(receive_head).buffer);
                 let length = u64::from(state.book.lengths[first_word(receive_head)]);
@@ -783,7 +1029,9 @@ impl Maker {
 
     fn some_frame_length(&mut self) -> u32 {
         match self.rng.below(4) {
-            0 => self.rng.pick(&[0, 1, 2047, 2048, 65536, 65537, 0xFFFF_FFFF]),
+            0 => self
+                .rng
+                .pick(&[0, 1, 2047, 2048, 65536, 65537, 0xFFFF_FFFF]),
             _ => self.rng.between(1, 2047) as u32,
         }
     }
@@ -793,10 +1041,21 @@ impl Maker {
         if self.rng.percent(5) {
             return self.rng.u32();
         }
-        if (c.teardown_pending[0] || c.teardown_pending[1] || c.reset_pending) && self.rng.percent(40) {
+        if (c.teardown_pending[0] || c.teardown_pending[1] || c.reset_pending)
+            && self.rng.percent(40)
+        {
             return self.rng.pick(&[0, 3, 4]);
         }
-        self.rng.pick(&[0, 1, 1, 1, 1, 2, 2, 2, 2, 3, 4])
+        // Mostly an engine that can move.
+        let busy = [
+            !matches!(c.tx, TxPhase::Idle),
+            !matches!(c.rx, RxPhase::Idle | RxPhase::Wait),
+        ];
+        match busy {
+            [true, false] if self.rng.percent(60) => 1,
+            [false, true] if self.rng.percent(60) => 2,
+            _ => self.rng.pick(&[0, 1, 1, 1, 1, 2, 2, 2, 2, 3, 4]),
+        }
     }
 }
 

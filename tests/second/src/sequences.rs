@@ -11,7 +11,7 @@ use crate::rng::Rng;
 use crate::traffic::*;
 use crate::variant::Variant;
 use std::collections::hash_map::DefaultHasher;
-use std::collections::HashMap;
+use std::collections::HashSet;
 use std::hash::{Hash, Hasher};
 use std::time::{Duration, Instant};
 
@@ -28,11 +28,10 @@ pub fn one_run(seed: u64, variant: Variant) -> (u64, Option<Found>) {
     let wanted = rng.between(60, 300) as usize;
     let mut guest = Guest::new(rng.next(), profile, variant);
     guest.run(wanted);
-    let found = guest
-        .world
-        .violation
-        .clone()
-        .map(|violation| Found { records: guest.records.clone(), violation });
+    let found = guest.world.violation.clone().map(|violation| Found {
+        records: guest.records.clone(),
+        violation,
+    });
     (guest.world.operations, found)
 }
 
@@ -63,7 +62,10 @@ pub fn shrink(found: Found, variant: Variant) -> Found {
             fewer.drain(at..(at + size).min(best.records.len()));
             match replay(&fewer, variant) {
                 Some(violation) => {
-                    best = Found { records: fewer, violation };
+                    best = Found {
+                        records: fewer,
+                        violation,
+                    };
                     dropped = true;
                 }
                 None => at += size,
@@ -96,6 +98,8 @@ struct Scene {
 const D0: u32 = DESC_START;
 const D1: u32 = DESC_START + 16;
 const D2: u32 = DESC_START + 32;
+const D3: u32 = DESC_START + 48;
+const D4: u32 = DESC_START + 64;
 const ONE: u32 = SOP | EOP | OWNER;
 
 fn write(address: u32, value: u32) -> Record {
@@ -107,7 +111,10 @@ fn step(engine: Engine) -> Record {
 }
 
 fn zeros() -> Vec<Record> {
-    [HDP[0], HDP[1], CP[0], CP[1]].iter().map(|&r| write(r, 0)).collect()
+    [HDP[0], HDP[1], CP[0], CP[1]]
+        .iter()
+        .map(|&r| write(r, 0))
+        .collect()
 }
 
 fn stored(at: u32, words: [u32; 4]) -> Vec<Record> {
@@ -127,7 +134,68 @@ fn scenes() -> Vec<Scene> {
     both.extend(stored(D0, [D0 + 20, 0x8000_0000, 1, SOP | OWNER | 2]));
     both.extend(stored(D0 + 20, [0, 0x8000_0000, 1, EOP]));
     both.extend(stored(D2 + 4, [0, 0x8000_1000, 1, OWNER]));
+    let mut all = zeros();
+    all.extend(stored(D0, [0, 0x8000_0000, 1, ONE | 1]));
+    all.extend(stored(D1, [D1 + 16, 0x8000_0FFF, 2, SOP | OWNER | 3]));
+    all.extend(stored(D2, [0, 0x8000_1000, 1, EOP]));
+    all.extend(stored(D3, [0, 0x8000_0FFF, 2, OWNER]));
+    all.extend(stored(D4, [0, 0x8000_1000, 1, OWNER]));
+    let everything = vec![
+        write(HDP[0], D0),
+        write(HDP[0], D1),
+        write(HDP[1], D3),
+        write(D0, D1),
+        write(D2, D0),
+        write(D3, D4),
+        write(D0, 0),
+        write(D3, 0),
+        write(D0 + 12, ONE | 1),
+        write(D3 + 12, OWNER),
+        write(D3 + 8, 2),
+        write(TX_TEARDOWN, 0),
+        write(RX_TEARDOWN, 0),
+        write(CP[0], TEARDOWN_CODE),
+        write(CP[1], TEARDOWN_CODE),
+        write(SOFT_RESET, 1),
+        write(HDP[0], 0),
+        write(HDP[1], 0),
+        write(CP[0], 0),
+        write(CP[1], 0),
+        Record::Frame(3),
+        Record::KindChange(0, 2),
+        Record::KindChange(1, 2),
+        Record::KindChange(0, 1),
+        Record::KindChange(1, 1),
+        step(Engine::Transmit),
+        step(Engine::Receive),
+        step(tx_td),
+        step(rx_td),
+        step(Engine::Reset),
+    ];
+    let sending = [0, 1, 3, 4, 6, 8, 11, 13, 15, 16, 17, 18, 19, 21, 25, 27, 29];
+    let receiving = [
+        2, 5, 7, 9, 10, 12, 14, 15, 16, 17, 18, 19, 20, 21, 22, 23, 26, 28, 29,
+    ];
+    let some = |of: &[usize]| of.iter().map(|&i| everything[i].clone()).collect();
     vec![
+        Scene {
+            name: "all of transmit",
+            kinds: vec![1, 1],
+            setup: all.clone(),
+            operations: some(&sending),
+        },
+        Scene {
+            name: "all of receive",
+            kinds: vec![1, 1],
+            setup: all.clone(),
+            operations: some(&receiving),
+        },
+        Scene {
+            name: "everything",
+            kinds: vec![1, 1],
+            setup: all,
+            operations: everything,
+        },
         Scene {
             name: "transmit, appends, teardown",
             kinds: vec![1, 2],
@@ -199,16 +267,29 @@ fn scenes() -> Vec<Scene> {
     ]
 }
 
-/// What tells two states apart.
+/// What tells two states apart. The totals are left out: nothing depends on them, and
+/// without them the states that can be reached are finitely many.
 fn fingerprint(world: &Monitored) -> u64 {
     let machine = &world.machine;
     let mut hasher = DefaultHasher::new();
-    machine.controller.hash(&mut hasher);
+    let mut controller = machine.controller.clone();
+    (controller.sent, controller.received) = (0, 0);
+    controller.hash(&mut hasher);
     machine.kinds.hash(&mut hasher);
     let book = &machine.book;
-    (book.heads, book.marks, book.reset_pending, book.teardown_pending).hash(&mut hasher);
+    (
+        book.heads,
+        book.marks,
+        book.reset_pending,
+        book.teardown_pending,
+    )
+        .hash(&mut hasher);
     for word in 0..DESC_WORDS {
-        let entry = (machine.memory.word(word), book.in_use[word], book.lengths[word]);
+        let entry = (
+            machine.memory.word(word),
+            book.in_use[word],
+            book.lengths[word],
+        );
         if entry != (0, 0, 0) {
             (word, entry).hash(&mut hasher);
         }
@@ -216,101 +297,88 @@ fn fingerprint(world: &Monitored) -> u64 {
     hasher.finish()
 }
 
-struct Search<'a> {
-    scene: &'a Scene,
-    until: Instant,
-    /// Depth already searched below a state.
-    seen: HashMap<u64, u8>,
-    operations: u64,
-    path: Vec<usize>,
-    found: Option<Found>,
-}
-
-impl Search<'_> {
-    /// All orders of operations from here; false when time ran out or something was found.
-    fn below(&mut self, world: &Monitored, depth: u8) -> bool {
-        if depth == 0 {
-            return true;
-        }
-        let state = fingerprint(world);
-        if self.seen.get(&state).is_some_and(|&done| done >= depth) {
-            return true;
-        }
-        for (i, operation) in self.scene.operations.iter().enumerate() {
-            if Instant::now() > self.until {
-                return false;
-            }
-            let mut next = world.clone();
-            next.record(operation);
-            self.operations += 1;
-            self.path.push(i);
-            if let Some(violation) = next.violation.clone() {
-                let mut records = vec![Record::Kinds(self.scene.kinds.clone())];
-                records.extend(self.scene.setup.iter().cloned());
-                records.extend(self.path.iter().map(|&i| self.scene.operations[i].clone()));
-                self.found = Some(Found { records, violation });
-                return false;
-            }
-            let complete = self.below(&next, depth - 1);
-            self.path.pop();
-            if !complete {
-                return false;
-            }
-        }
-        self.seen.insert(state, depth);
-        true
-    }
-}
-
 pub struct Exhausted {
     pub name: &'static str,
-    pub depth: u8,
+    /// All orders of so many operations were tried.
+    pub depth: u32,
+    /// Nothing new can be reached: every order of any number was tried.
+    pub complete: bool,
     pub states: usize,
     pub operations: u64,
     pub found: Option<Found>,
 }
 
-/// Every order of each scene's operations, deeper and deeper until the time is over.
+/// Every order of each scene's operations, level by level, each state once, until there
+/// is nothing new or the time is over.
 pub fn exhaust(variant: Variant, each: Duration) -> Vec<Exhausted> {
-    let scenes = scenes();
-    scenes
+    scenes()
         .iter()
-        .map(|scene| {
-            let mut start = Monitored::fresh(scene.kinds.clone(), variant);
-            for record in &scene.setup {
-                start.record(record);
-            }
-            let until = Instant::now() + each;
-            let mut out =
-                Exhausted { name: scene.name, depth: 0, states: 0, operations: 0, found: None };
-            for depth in 1..=60 {
-                let mut search = Search {
-                    scene,
-                    until,
-                    seen: HashMap::new(),
-                    operations: 0,
-                    path: Vec::new(),
-                    found: None,
-                };
-                let complete = search.below(&start, depth);
-                out.operations += search.operations;
-                if search.found.is_some() {
-                    out.found = search.found;
-                    return out;
-                }
-                if !complete {
-                    return out;
-                }
-                let grown = search.seen.len() > out.states;
-                out.depth = depth;
-                out.states = search.seen.len();
-                if !grown && depth > 2 {
-                    return out; // every state that can be reached was seen
-                }
-            }
-            out
-        })
+        .map(|scene| exhaust_scene(scene, variant, each))
         .collect()
+}
+
+fn exhaust_scene(scene: &Scene, variant: Variant, each: Duration) -> Exhausted {
+    let until = Instant::now() + each;
+    let mut start = Monitored::fresh(scene.kinds.clone(), variant);
+    for record in &scene.setup {
+        start.record(record);
+    }
+    // How each state was first reached: the state before and the operation.
+    let mut reached_by: Vec<(usize, usize)> = vec![(0, 0)];
+    let mut seen = HashSet::from([fingerprint(&start)]);
+    let mut level = vec![(0usize, start)];
+    let mut out = Exhausted {
+        name: scene.name,
+        depth: 0,
+        complete: false,
+        states: 1,
+        operations: 0,
+        found: None,
+    };
+    loop {
+        let mut next_level = Vec::new();
+        for (number, world) in &level {
+            if Instant::now() > until {
+                return out;
+            }
+            for (i, operation) in scene.operations.iter().enumerate() {
+                let mut next = world.clone();
+                next.record(operation);
+                out.operations += 1;
+                if let Some(violation) = next.violation {
+                    let records = path_to(scene, &reached_by, *number, i);
+                    out.found = Some(Found { records, violation });
+                    return out;
+                }
+                if seen.insert(fingerprint(&next)) {
+                    reached_by.push((*number, i));
+                    next_level.push((reached_by.len() - 1, next));
+                    out.states += 1;
+                }
+            }
+        }
+        out.depth += 1;
+        if next_level.is_empty() {
+            out.complete = true;
+            return out;
+        }
+        level = next_level;
+    }
+}
+
+/// The records from the fresh machine to a state, and one operation more.
+fn path_to(scene: &Scene, reached_by: &[(usize, usize)], state: usize, last: usize) -> Vec<Record> {
+    let mut backwards = vec![last];
+    let mut at = state;
+    while at != 0 {
+        let (before, operation) = reached_by[at];
+        backwards.push(operation);
+        at = before;
+    }
+    let mut records = vec![Record::Kinds(scene.kinds.clone())];
+    records.extend(scene.setup.iter().cloned());
+    records.extend(backwards.iter().rev().map(|&i| scene.operations[i].clone()));
+    records
 }
 
 // ---------------------------------------------------------------- broken variants
@@ -337,7 +405,10 @@ pub fn directed(variant: Variant) -> Option<Found> {
             }
         }
         Variant::StepSixReadsAgain => {
-            let chain = [Planned { at: D0, words: [0, 0x8000_0000, 2, ONE | 2] }];
+            let chain = [Planned {
+                at: D0,
+                words: [0, 0x8000_0000, 2, ONE | 2],
+            }];
             guest.store(&chain);
             guest.write(HDP[0], D0);
             for _ in 0..5 {
@@ -351,5 +422,11 @@ pub fn directed(variant: Variant) -> Option<Found> {
         _ => return None,
     }
     let violation = guest.world.violation.clone()?;
-    Some(shrink(Found { records: guest.records.clone(), violation }, variant))
+    Some(shrink(
+        Found {
+            records: guest.records.clone(),
+            violation,
+        },
+        variant,
+    ))
 }

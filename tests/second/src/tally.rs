@@ -39,6 +39,10 @@ impl Tally {
 
     /// Those of the wanted keys that never occurred.
     pub fn missing(&self, wanted: &[String]) -> Vec<String> {
-        wanted.iter().filter(|key| self.get(key) == 0).cloned().collect()
+        wanted
+            .iter()
+            .filter(|key| self.get(key) == 0)
+            .cloned()
+            .collect()
     }
 }

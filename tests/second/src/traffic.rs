@@ -70,7 +70,11 @@ impl Guest {
         let mut rng = Rng::new(seed);
         let kinds = random_kinds(&mut rng, profile);
         let world = Monitored::fresh(kinds.clone(), variant);
-        let words = if rng.percent(60) { 48 + rng.index(80) } else { DESC_WORDS };
+        let words = if rng.percent(60) {
+            48 + rng.index(80)
+        } else {
+            DESC_WORDS
+        };
         let start = match rng.below(4) {
             0 => 0,
             1 => DESC_WORDS - words,
@@ -162,7 +166,9 @@ impl Guest {
     // ------------------------------------------------------------ looking at the state
 
     fn book_words(&self) -> Vec<bool> {
-        (0..DESC_WORDS).map(|w| self.world.machine.book.word_in_use(w)).collect()
+        (0..DESC_WORDS)
+            .map(|w| self.world.machine.book.word_in_use(w))
+            .collect()
     }
 
     fn queue(&self, side: Side) -> Vec<u32> {
@@ -206,8 +212,10 @@ impl Guest {
     }
 
     fn some_engine(&mut self) -> Engine {
-        let able: Vec<Engine> =
-            Engine::ALL.into_iter().filter(|&engine| self.can_move(engine)).collect();
+        let able: Vec<Engine> = Engine::ALL
+            .into_iter()
+            .filter(|&engine| self.can_move(engine))
+            .collect();
         if able.is_empty() || self.rng.percent(8) {
             return self.rng.pick(&Engine::ALL);
         }
@@ -251,12 +259,17 @@ impl Guest {
             2 if high - low > 1 => (BLOCK_BYTES - 1).min(spare),
             _ => self.rng.below(spare + 1),
         };
-        Some(Range { first: start + shift, length })
+        Some(Range {
+            first: start + shift,
+            length,
+        })
     }
 
     fn some_packet_length(&mut self) -> u64 {
         match self.rng.below(4) {
-            0 => self.rng.pick(&[1, 2, 3, 63, 64, 65, 127, 128, 129, 1514, 1518, 2046, 2047]),
+            0 => self
+                .rng
+                .pick(&[1, 2, 3, 63, 64, 65, 127, 128, 129, 1514, 1518, 2046, 2047]),
             1 => self.rng.between(1, 2047),
             _ => self.rng.between(1, 200),
         }
@@ -291,7 +304,10 @@ impl Guest {
                 }
                 let at = self.free_place(&mut taken)?;
                 let word2 = (offset << 16) | range.length as u32;
-                chain.push(Planned { at, words: [0, pointer, word2, word3] });
+                chain.push(Planned {
+                    at,
+                    words: [0, pointer, word2, word3],
+                });
             }
             chain[sop_at].words[3] |= sum as u32 & LOW_11;
         }
@@ -303,7 +319,11 @@ impl Guest {
     fn perhaps_with_offset(&mut self, first: u64, sop: bool) -> (u32, u32) {
         if !sop {
             // Ignored where it is not the SOP descriptor's.
-            let offset = if self.rng.percent(20) { self.rng.between(0, 0xFFFF) } else { 0 };
+            let offset = if self.rng.percent(20) {
+                self.rng.between(0, 0xFFFF)
+            } else {
+                0
+            };
             return (first as u32, offset as u32);
         }
         if !self.rng.percent(30) {
@@ -355,9 +375,39 @@ impl Guest {
     /// One thing about the chain goes wrong (or nearly).
     fn break_chain(&mut self, side: Side, chain: &mut [Planned]) {
         let i = self.rng.index(chain.len());
-        let in_use: Vec<u32> =
-            self.queue(Side::Transmit).into_iter().chain(self.queue(Side::Receive)).collect();
-        match self.rng.below(12) {
+        let in_use: Vec<u32> = self
+            .queue(Side::Transmit)
+            .into_iter()
+            .chain(self.queue(Side::Receive))
+            .collect();
+        match self.rng.below(16) {
+            12 => {
+                // Two faults in one descriptor: bad next and wrong sum or flags.
+                chain[i].words[0] = self.some_bad_pointer();
+                chain[i].words[3] ^= self.rng.pick(&[1, 2, SOP, OWNER]);
+            }
+            13 => {
+                // Two faults in two descriptors.
+                let j = self.rng.index(chain.len());
+                chain[i].words[3] ^= self.rng.pick(&[1, EOQ, EOP]);
+                chain[j].words[1] = self.rng.pick(&[0, 0xFFFF_FFFF]);
+            }
+            14 if side == Side::Transmit => {
+                // Over three blocks or more.
+                let block = block_between(&self.world.machine.kinds, &mut self.rng);
+                chain[i].words[1] = (RAM_START + block * BLOCK_BYTES - 1) as u32;
+                chain[i].words[2] = self.rng.between(0x1001, 0x1003) as u32;
+            }
+            15 if side == Side::Transmit => {
+                // Pointer and offset together pass 2^32 - 1, or just do not.
+                let length = chain[i].words[2] & 0xFFFF;
+                chain[i].words[1] = 0xFFFF_FFF0;
+                let offset = self
+                    .rng
+                    .pick(&[0x10u32, 0x20, 0x10u32.wrapping_sub(length)])
+                    & 0xFFFF;
+                chain[i].words[2] = (offset << 16) | length;
+            }
             0 => chain[i].words[0] = self.some_bad_pointer(),
             1 => {
                 let j = self.rng.index(chain.len());
@@ -423,8 +473,19 @@ impl Guest {
 
     fn some_bad_pointer(&mut self) -> u32 {
         let bad = [
-            0x4A10_1FFC, 0x4A10_3FF4, 0x4A10_3FF8, 0x4A10_3FFC, 0x4A10_4000, 0x4A10_2001,
-            0x4A10_2002, 0x4A10_3FEF, 0x4A10_3FF1, 4, 0x8000_1000, 0xFFFF_FFFC, 0xFFFF_FFFF,
+            0x4A10_1FFC,
+            0x4A10_3FF4,
+            0x4A10_3FF8,
+            0x4A10_3FFC,
+            0x4A10_4000,
+            0x4A10_2001,
+            0x4A10_2002,
+            0x4A10_3FEF,
+            0x4A10_3FF1,
+            4,
+            0x8000_1000,
+            0xFFFF_FFFC,
+            0xFFFF_FFFF,
             0x4A10_2006,
         ];
         self.rng.pick(&bad)
@@ -441,8 +502,8 @@ impl Guest {
             }
             for w in order {
                 let word = first_word_unchecked(planned.at) + w;
-                let same = word < DESC_WORDS
-                    && self.world.machine.memory.word(word) == planned.words[w];
+                let same =
+                    word < DESC_WORDS && self.world.machine.memory.word(word) == planned.words[w];
                 if !same || self.rng.percent(5) {
                     self.write(planned.at + 4 * w as u32, planned.words[w]);
                 }
@@ -514,8 +575,14 @@ impl Guest {
         if self.profile != Profile::Valid && self.rng.percent(40) {
             let side = self.some_side();
             let value = self.rng.pick(&[0, 1, DESC_START, TEARDOWN_CODE]);
-            let address =
-                self.rng.pick(&[HDP[0], HDP[1], CP[0], CP[1], TEARDOWN[side.index()], SOFT_RESET]);
+            let address = self.rng.pick(&[
+                HDP[0],
+                HDP[1],
+                CP[0],
+                CP[1],
+                TEARDOWN[side.index()],
+                SOFT_RESET,
+            ]);
             self.write(address, value);
             return;
         }
@@ -585,9 +652,24 @@ impl Guest {
             }
             2 => {
                 let edges = [
-                    0x4A10_07FC, 0x4A10_0800, 0x4A10_08FC, 0x4A10_0900, 0x4A10_09FC, 0x4A10_0A04,
-                    0x4A10_0A7C, 0x4A10_0A80, 0x4A10_1FFC, 0x4A10_4000, 0, 0xFFFF_FFFC,
-                    0x8000_0000, 0x4A10_0A02, 0x4A10_2001, 0x4A10_0901, 0x4A10_3FFF, 0x4A10_3FFC,
+                    0x4A10_07FC,
+                    0x4A10_0800,
+                    0x4A10_08FC,
+                    0x4A10_0900,
+                    0x4A10_09FC,
+                    0x4A10_0A04,
+                    0x4A10_0A7C,
+                    0x4A10_0A80,
+                    0x4A10_1FFC,
+                    0x4A10_4000,
+                    0,
+                    0xFFFF_FFFC,
+                    0x8000_0000,
+                    0x4A10_0A02,
+                    0x4A10_2001,
+                    0x4A10_0901,
+                    0x4A10_3FFF,
+                    0x4A10_3FFC,
                 ];
                 let address = self.rng.pick(&edges);
                 let value = self.rng.pick(&[0, 1, 0xFFFF_FFFF]);
@@ -792,7 +874,11 @@ impl Guest {
                 Engine::Receive
             }
         };
-        let label = if side == Side::Transmit { "transmit 5" } else { "receive 5" };
+        let label = if side == Side::Transmit {
+            "transmit 5"
+        } else {
+            "receive 5"
+        };
         if !self.step_until(engine, label) {
             return;
         }
@@ -809,7 +895,9 @@ impl Guest {
     /// The one overlap that only 13 stops: a transmit middle descriptor whose word 3 is 0
     /// and is also word 0 (0) of a last descriptor.
     pub fn overlap_only_13_stops(&mut self) {
-        let Some(receive) = self.plan_receive(1) else { return };
+        let Some(receive) = self.plan_receive(1) else {
+            return;
+        };
         let last = receive[0].at;
         if last < DESC_START + 12 {
             return;
@@ -828,12 +916,23 @@ impl Guest {
         else {
             return;
         };
-        let Some(buffer) = self.permitted_buffer(30, owned_by_linux) else { return };
+        let Some(buffer) = self.permitted_buffer(30, owned_by_linux) else {
+            return;
+        };
         let (pointer, length) = (buffer.first as u32, buffer.length as u32);
         let chain = [
-            Planned { at: sop, words: [middle, pointer, length, SOP | OWNER | (3 * length)] },
-            Planned { at: middle, words: [eop, pointer, length, 0] },
-            Planned { at: eop, words: [0, pointer, length, EOP] },
+            Planned {
+                at: sop,
+                words: [middle, pointer, length, SOP | OWNER | (3 * length)],
+            },
+            Planned {
+                at: middle,
+                words: [eop, pointer, length, 0],
+            },
+            Planned {
+                at: eop,
+                words: [0, pointer, length, EOP],
+            },
         ];
         self.store(&chain[..1]);
         for word in 0..3 {
@@ -841,7 +940,9 @@ impl Guest {
         }
         self.store(&chain[2..]);
         self.hand_over(Side::Transmit, sop);
-        let Some(more) = self.plan_receive(1) else { return };
+        let Some(more) = self.plan_receive(1) else {
+            return;
+        };
         self.store(&more);
         self.write(last, more[0].at);
         self.steps(Engine::Transmit, 40);
@@ -894,6 +995,30 @@ impl Guest {
         }
     }
 
+    /// A teardown with no other call in between: packets sent and one torn down are
+    /// released by one and the same call.
+    fn quiet_teardown(&mut self) {
+        self.drain();
+        self.acknowledge();
+        let Some(chain) = self.plan_transmit(3) else {
+            return;
+        };
+        self.store(&chain);
+        self.hand_over(Side::Transmit, chain[0].at);
+        let count = self.rng.between(1, 12) as u8;
+        self.steps(Engine::Transmit, count);
+        self.write(TX_TEARDOWN, 0);
+        self.steps(Engine::Transmit, 120);
+        let count = self.rng.between(1, 4) as u8;
+        self.steps(Engine::Teardown(Side::Transmit), count);
+        for _ in 0..3 {
+            let planned = self.rng.pick(&chain);
+            let word = self.rng.below(4) as u32;
+            self.write(planned.at + 4 * word, planned.words[word as usize]);
+        }
+        self.write(CP[0], TEARDOWN_CODE);
+    }
+
     fn reset(&mut self) {
         self.write(SOFT_RESET, 1);
         for _ in 0..self.rng.between(1, 4) {
@@ -930,6 +1055,39 @@ impl Guest {
 
     /// "Judging 21 by the length now in word 2: the controller has shrunk it."
     fn kind_change_under_shrunk_buffer(&mut self) {
+        let straddled: Vec<u64> = runs_of(&self.world.machine.kinds, linux_data)
+            .iter()
+            .flat_map(|&(low, high)| low as u64 + 1..high as u64)
+            .collect();
+        if !straddled.is_empty() && self.rng.percent(70) {
+            self.drain();
+            let mut taken = self.book_words();
+            let Some(at) = self.free_place(&mut taken) else {
+                return;
+            };
+            // Begins before the block's start, and the frame will end before it too.
+            let block = self.rng.pick(&straddled);
+            let before = self.rng.between(20, 90);
+            let first = RAM_START + block * BLOCK_BYTES - before;
+            let length = before + self.rng.between(1, 500);
+            let words = [0, first as u32, length as u32, OWNER];
+            self.store(&[Planned { at, words }]);
+            self.hand_over(Side::Receive, at);
+            let frame = self.rng.between(1, 20) as u16;
+            self.frame(frame);
+            let at = self
+                .rng
+                .pick(&["receive 3", "receive 4", "receive 4", "receive 5"]);
+            self.step_until(Engine::Receive, at);
+            for block in [block, block - 1] {
+                let kind = self.rng.between(1, 4) as u8;
+                self.kind(block as u16, kind);
+            }
+            self.steps(Engine::Receive, 3);
+            let kind = self.rng.between(1, 4) as u8;
+            self.kind(block as u16, kind);
+            return;
+        }
         self.offer_buffers();
         let length = self.rng.between(1, 30) as u16;
         self.frame(length);
@@ -974,7 +1132,9 @@ impl Guest {
     }
 
     fn long_frame(&mut self) {
-        let Some(chain) = self.plan_receive(3) else { return };
+        let Some(chain) = self.plan_receive(3) else {
+            return;
+        };
         self.store(&chain);
         self.hand_over(Side::Receive, chain[0].at);
         let length = self.rng.pick(&[2047, 1500, 700, 300]);
@@ -1030,7 +1190,8 @@ impl Guest {
                 60..=69 => self.some_frame(),
                 70..=84 => self.pump(5),
                 85..=92 => self.interleaved(),
-                93..=95 => self.teardown(side),
+                93 | 94 => self.teardown(side),
+                95 => self.quiet_teardown(),
                 96 => self.reset(),
                 _ => self.poke_queue(),
             },
@@ -1054,7 +1215,8 @@ impl Guest {
                 _ => self.drain(),
             },
             Profile::Teardown => match roll {
-                0..=24 => self.teardown(side),
+                0..=14 => self.teardown(side),
+                15..=24 => self.quiet_teardown(),
                 25..=34 => self.reset(),
                 35..=49 => self.send(),
                 50..=64 => self.offer_buffers(),
@@ -1120,6 +1282,18 @@ fn runs_of(kinds: &[u8], permits: fn(u8) -> bool) -> Vec<(usize, usize)> {
     runs
 }
 
+/// A block that is not Linux's between two that are, where there is one.
+pub fn block_between(kinds: &[u8], rng: &mut Rng) -> u64 {
+    let between: Vec<u64> = (1..kinds.len().max(2) - 1)
+        .filter(|&b| owned_by_linux(kinds[b - 1]) && kinds[b] == 0 && owned_by_linux(kinds[b + 1]))
+        .map(|b| b as u64)
+        .collect();
+    if between.is_empty() {
+        return rng.below(kinds.len().max(1) as u64) + 1;
+    }
+    rng.pick(&between)
+}
+
 /// A legal kind table.
 pub fn random_kinds(rng: &mut Rng, profile: Profile) -> Vec<u8> {
     let n = match rng.below(20) {
@@ -1129,7 +1303,13 @@ pub fn random_kinds(rng: &mut Rng, profile: Profile) -> Vec<u8> {
     };
     let data = if profile == Profile::Valid { 70 } else { 50 };
     let mut kinds: Vec<u8> = (0..n)
-        .map(|_| if rng.percent(data) { 1 } else { rng.below(5) as u8 })
+        .map(|_| {
+            if rng.percent(data) {
+                1
+            } else {
+                rng.below(5) as u8
+            }
+        })
         .collect();
     if rng.below(400) == 0 {
         kinds.resize(MAX_BLOCKS, 1);

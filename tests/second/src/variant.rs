@@ -7,7 +7,7 @@ pub enum Variant {
     Right,
     /// 16 looks at the block of the first byte only.
     FirstByteOnly,
-    /// 13 asks for the first word of a descriptor only.
+    /// 13 asks for the first word of a descriptor only, and so does soundness.
     OverlapFirstWordOnly,
     /// 10 on HDP by the book's empty queue only, HDP is not read.
     BusyByBookOnly,

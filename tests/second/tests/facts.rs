@@ -25,7 +25,10 @@ fn ready(kinds: &[u8]) -> Machine {
 
 fn store(machine: &mut Machine, at: u32, words: [u32; 4]) {
     for (i, word) in words.into_iter().enumerate() {
-        assert_eq!(machine.guest_write(at + 4 * i as u32, word).answer.number, 0);
+        assert_eq!(
+            machine.guest_write(at + 4 * i as u32, word).answer.number,
+            0
+        );
     }
 }
 
@@ -67,7 +70,11 @@ fn sixty_and_forty_bytes_take_nine_steps() {
 #[test]
 fn receive_marks_first_and_last() {
     let mut machine = ready(&[0, 1, 1]);
-    store(&mut machine, D0, [D1, 0x8000_1000, 0xF800_F840, OWNER | 0x07FF_FFFF]);
+    store(
+        &mut machine,
+        D0,
+        [D1, 0x8000_1000, 0xF800_F840, OWNER | 0x07FF_FFFF],
+    );
     store(&mut machine, D1, [0, 0x8000_1100, 0x40, OWNER]);
     assert_eq!(machine.guest_write(RX_HDP, D0).answer.number, 0);
     assert_eq!(machine.book.lengths[0], 0x40);
@@ -167,10 +174,22 @@ fn unguarded_writes() {
     assert_eq!(report.answer, 22);
     // "the controller is marked undefined and nothing else changes, now or later"
     assert!(controller.undefined);
-    assert_eq!(Controller { undefined: false, ..controller.clone() }, before);
+    assert_eq!(
+        Controller {
+            undefined: false,
+            ..controller.clone()
+        },
+        before
+    );
     assert_eq!(controller.unguarded_write(&mut memory, 0x4A10_0A02, 1), 22);
     assert_eq!(controller.frame(0), 22);
-    assert_eq!(Controller { undefined: false, ..controller }, before);
+    assert_eq!(
+        Controller {
+            undefined: false,
+            ..controller
+        },
+        before
+    );
 }
 
 #[test]
@@ -182,7 +201,12 @@ fn a_probe_case_by_hand() {
         book: machine.book.clone(),
         controller: machine.controller.clone(),
     };
-    let case = Case { call: 0, a: 0x4A10_3FFC, b: 9, state };
+    let case = Case {
+        call: 0,
+        a: 0x4A10_3FFC,
+        b: 9,
+        state,
+    };
     let mut input = probe::write_case(&case);
     input.push(0); // a cut case prints nothing
     let expected = "A 0 1 0\nB 0 0 0\nM 8192 2047:9\nK 4 7 14\nH 0 0 15 0 0\nU\nL\nR 0 0 0 0 0\n\

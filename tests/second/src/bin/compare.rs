@@ -49,7 +49,10 @@ struct Arguments {
 
 impl Arguments {
     fn read(words: &[String]) -> Result<Arguments, String> {
-        let mut arguments = Arguments { flags: HashMap::new(), rest: Vec::new() };
+        let mut arguments = Arguments {
+            flags: HashMap::new(),
+            rest: Vec::new(),
+        };
         let mut words = words.iter();
         while let Some(word) = words.next() {
             match word.strip_prefix("--") {
@@ -66,12 +69,17 @@ impl Arguments {
     fn number(&self, flag: &str, default: u64) -> Result<u64, String> {
         match self.flags.get(flag) {
             None => Ok(default),
-            Some(text) => text.parse().map_err(|_| format!("--{flag} {text} is no number")),
+            Some(text) => text
+                .parse()
+                .map_err(|_| format!("--{flag} {text} is no number")),
         }
     }
 
     fn program(&self, flag: &str) -> Result<External, String> {
-        let path = self.flags.get(flag).ok_or(format!("--{flag} PATH is missing"))?;
+        let path = self
+            .flags
+            .get(flag)
+            .ok_or(format!("--{flag} PATH is missing"))?;
         External::new(path)
     }
 }
@@ -97,7 +105,11 @@ fn main() -> ExitCode {
         Ok(score) => score.finish(),
         Err(what) => {
             println!("{what}");
-            Score { passed: 0, failed: 1 }.finish()
+            Score {
+                passed: 0,
+                failed: 1,
+            }
+            .finish()
         }
     }
 }
@@ -143,15 +155,25 @@ fn run_bench(arguments: &Arguments) -> Result<Score, String> {
     let seed = arguments.number("seed", 1)?;
     let started = Instant::now();
     let result = compare_bench::compare(&external, files, seed);
-    println!("{} files in {:.1} s", result.files, started.elapsed().as_secs_f64());
+    println!(
+        "{} files in {:.1} s",
+        result.files,
+        started.elapsed().as_secs_f64()
+    );
     result.counter.tally.print();
-    let mut score = Score { passed: result.files - result.failed, failed: result.failed };
+    let mut score = Score {
+        passed: result.files - result.failed,
+        failed: result.failed,
+    };
     if result.counter.twenty_two {
         println!("FAILED: the second model itself came to 22");
         score.failed += 1;
     }
     if result.failed == 0 {
-        require(&mut score, result.counter.tally.missing(&compare_bench::wanted()));
+        require(
+            &mut score,
+            result.counter.tally.missing(&compare_bench::wanted()),
+        );
     }
     Ok(score)
 }
@@ -162,9 +184,16 @@ fn run_probe(arguments: &Arguments) -> Result<Score, String> {
     let seed = arguments.number("seed", 1)?;
     let started = Instant::now();
     let result = compare_probe::compare(&external, cases, seed);
-    println!("{} cases in {:.1} s", result.cases, started.elapsed().as_secs_f64());
+    println!(
+        "{} cases in {:.1} s",
+        result.cases,
+        started.elapsed().as_secs_f64()
+    );
     result.tally.print();
-    let mut score = Score { passed: result.cases - result.failed, failed: result.failed };
+    let mut score = Score {
+        passed: result.cases - result.failed,
+        failed: result.failed,
+    };
     if result.failed == 0 {
         require(&mut score, result.tally.missing(&compare_probe::wanted()));
     }
@@ -244,11 +273,19 @@ fn run_sequences(arguments: &Arguments) -> Result<Score, String> {
             break;
         }
     }
-    println!("{runs} random sequences, {operations} operations checked, {:.1} s", started.elapsed().as_secs_f64());
+    println!(
+        "{runs} random sequences, {operations} operations checked, {:.1} s",
+        started.elapsed().as_secs_f64()
+    );
     for scene in sequences::exhaust(Variant::Right, Duration::from_secs(seconds)) {
+        let extent = if scene.complete {
+            "every state that can be reached".to_string()
+        } else {
+            format!("all orders to depth {}", scene.depth)
+        };
         println!(
-            "exhaustive: {}: all orders to depth {}, {} states, {} operations",
-            scene.name, scene.depth, scene.states, scene.operations
+            "exhaustive: {}: {extent}, {} states, {} operations",
+            scene.name, scene.states, scene.operations
         );
         operations += scene.operations;
         score.add(scene.found.is_none());
@@ -272,9 +309,23 @@ fn run_broken(_arguments: &Arguments) -> Result<Score, String> {
             }
             None => println!("not found {} in {runs} random runs", variant.name()),
         }
+        for scene in sequences::exhaust(variant, Duration::from_millis(300)) {
+            if let Some(found) = scene.found {
+                println!(
+                    "found {} by the exhaustive scene \"{}\": {}",
+                    variant.name(),
+                    scene.name,
+                    found.violation
+                );
+            }
+        }
         let directed = sequences::directed(variant);
         if let Some(found) = &directed {
-            println!("found {} by a scene made for it: {}", variant.name(), found.violation);
+            println!(
+                "found {} by a scene made for it: {}",
+                variant.name(),
+                found.violation
+            );
         }
         let ok = random.is_some() || directed.is_some();
         if !ok {

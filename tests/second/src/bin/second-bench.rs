@@ -14,7 +14,11 @@ fn main() {
         _ => panic!("usage: second-bench [--variant NAME] < file"),
     };
     let mut input = Vec::new();
-    std::io::stdin().read_to_end(&mut input).expect("standard input");
+    std::io::stdin()
+        .read_to_end(&mut input)
+        .expect("standard input");
     let output = run(&input, variant, &mut NoWatcher);
-    std::io::stdout().write_all(output.as_bytes()).expect("standard output");
+    std::io::stdout()
+        .write_all(output.as_bytes())
+        .expect("standard output");
 }

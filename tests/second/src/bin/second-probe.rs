@@ -13,7 +13,11 @@ fn main() {
         _ => panic!("usage: second-probe [--variant NAME] < cases"),
     };
     let mut input = Vec::new();
-    std::io::stdin().read_to_end(&mut input).expect("standard input");
+    std::io::stdin()
+        .read_to_end(&mut input)
+        .expect("standard input");
     let output = run(&input, variant);
-    std::io::stdout().write_all(output.as_bytes()).expect("standard output");
+    std::io::stdout()
+        .write_all(output.as_bytes())
+        .expect("standard output");
 }

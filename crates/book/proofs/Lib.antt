@@ -1,0 +1,3 @@
+pub mod ReleaseLaws
+pub mod HandOverLaws
+pub mod SoundLaws

@@ -1,0 +1,4 @@
+pub mod ChainLaws
+pub mod HandLaws
+pub mod VerdictLaws
+pub mod Settled

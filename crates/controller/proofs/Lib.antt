@@ -1,0 +1,4 @@
+pub mod FetchLaws
+pub mod StepLaws
+pub mod EntryLaws
+pub mod UniqueLaws

@@ -1,0 +1,100 @@
+-- `controller::take_frame_by` meets its contract: each test picks its case. Assumes nothing.
+use mathlib.Core.Path.{_∙_, sym, ap}
+use Prim.Native.Nat.{ℕ}
+use borrow.Author.Tests.{eq-eqb, ne-eqb, le-leb, lt-leb}
+use Rattle.layout.proofs.ChoiceLaws.{yes-of, no-of}
+use Rattle.controller.specs.declared.Controller.{Controller}
+use Rattle.controller.specs.declared.Receiving.the-variants.{Fetch}
+use Rattle.controller.specs.Controller.{framed, setRx, frameOf}
+use Rattle.controller.proofs.EntryLaws.{frame-taken}
+use borrow.Author.Needs.{needs}
+use Rattle.controller.proofs.take_frame_by.Statement.{statement}
+use Rattle.controller.proofs.take_frame_by.Tie as tie
+
+answer-frame-requires : tie.Need-answer-frame-requires
+answer-frame-requires c κs = search needs
+
+returns : tie.Need-returns
+unfolding frameOf
+returns c = simp (c .before .if1 .taken) (c .answer-frame .ensures)
+
+answer-frame-requires-2 : tie.Need-answer-frame-requires-2
+answer-frame-requires-2 c κs = search needs
+
+returns-2 : tie.Need-returns-2
+unfolding frameOf
+returns-2 c = simp (c .before .before .if1 .left, lt-leb _ _ (c .before .if2 .taken)) (c .answer-frame2 .ensures)
+
+answer-frame-requires-3 : tie.Need-answer-frame-requires-3
+answer-frame-requires-3 c κs = search needs
+
+returns-3 : tie.Need-returns-3
+unfolding frameOf
+returns-3 c = simp (c .before .before .before .if1 .left, le-leb _ _ (c .before .before .if2 .left), lt-leb _ _ (c .before .if3 .taken)) (c .answer-frame3 .ensures)
+
+hdp-of-requires : tie.Need-hdp-of-requires
+hdp-of-requires c κs = search needs
+
+answer-frame-requires-4 : tie.Need-answer-frame-requires-4
+answer-frame-requires-4 c κs = search needs
+
+returns-4 : tie.Need-returns-4
+unfolding frameOf
+returns-4 c = simp (c .before .before .before .before .before .if1 .left, le-leb _ _ (c .before .before .before .before .if2 .left), le-leb _ _ (c .before .before .before .if3 .left), sym (c .before .before .hdp-of .ensures), eq-eqb _ _ (c .before .if4 .taken)) (c .answer-frame4 .ensures)
+
+is-waiting-requires : tie.Need-is-waiting-requires
+is-waiting-requires c κs = search needs
+
+answer-frame-requires-5 : tie.Need-answer-frame-requires-5
+answer-frame-requires-5 c κs = search needs
+
+returns-5 : tie.Need-returns-5
+unfolding frameOf
+returns-5 c = simp (c .before .before .before .before .before .before .before .if1 .left, le-leb _ _ (c .before .before .before .before .before .before .if2 .left), le-leb _ _ (c .before .before .before .before .before .if3 .left), sym (c .before .before .before .before .hdp-of .ensures), ne-eqb _ _ (c .before .before .before .if4 .left), no-of (c .before .before .is-waiting .ensures) (c .before .if5 .taken)) (c .answer-frame5 .ensures)
+
+is-held-requires : tie.Need-is-held-requires
+is-held-requires c κs = search needs
+
+answer-frame-requires-6 : tie.Need-answer-frame-requires-6
+answer-frame-requires-6 c κs = search needs
+
+returns-6 : tie.Need-returns-6
+unfolding frameOf
+returns-6 c = simp (c .before .before .before .before .before .before .before .before .before .if1 .left, le-leb _ _ (c .before .before .before .before .before .before .before .before .if2 .left), le-leb _ _ (c .before .before .before .before .before .before .before .if3 .left), sym (c .before .before .before .before .before .before .hdp-of .ensures), ne-eqb _ _ (c .before .before .before .before .before .if4 .left), yes-of (c .before .before .before .before .is-waiting .ensures) (c .before .before .before .if5 .left), sym (c .before .before .is-held .ensures) ∙ c .before .if6 .taken) (c .answer-frame6 .ensures)
+
+set-rx-requires : tie.Need-set-rx-requires
+set-rx-requires c κs = search needs
+
+answer-frame-requires-7 : tie.Need-answer-frame-requires-7
+answer-frame-requires-7 c κs = search needs
+
+returns-7 : tie.Need-returns-7
+returns-7 c =
+    let a = c .before .before .before .before .before .before .before .before .before .before .before .args in
+    let first = c .before .before .before .before .before .before .before .hdp-of .ensures in
+    let went = c .before .set-rx .ensures ∙ ap (λ (p : ℕ). setRx (Fetch (record { first = p; stored = 0; left = a .n })) (a .c .received) (a .c)) first in
+    let law = frame-taken (a .n) (a .c) (c .before .before .before .before .before .before .before .before .before .before .if1 .left) (c .before .before .before .before .before .before .before .before .before .if2 .left) (c .before .before .before .before .before .before .before .before .if3 .left) (λ e. c .before .before .before .before .before .before .if4 .left (first ∙ e)) (yes-of (c .before .before .before .before .before .is-waiting .ensures) (c .before .before .before .before .if5 .left)) (sym (c .before .before .before .is-held .ensures) ∙ c .before .before .if6 .left) in
+    c .answer-frame7 .ensures ∙ ap (λ (d : Controller). framed 0 d) went ∙ sym law
+
+pub take-frame-by-spec : {M : Type 1} → statement M
+take-frame-by-spec =
+    tie.close
+    (tie.spec
+    answer-frame-requires
+    returns
+    answer-frame-requires-2
+    returns-2
+    answer-frame-requires-3
+    returns-3
+    hdp-of-requires
+    answer-frame-requires-4
+    returns-4
+    is-waiting-requires
+    answer-frame-requires-5
+    returns-5
+    is-held-requires
+    answer-frame-requires-6
+    returns-6
+    set-rx-requires
+    answer-frame-requires-7
+    returns-7)

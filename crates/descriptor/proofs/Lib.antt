@@ -1,0 +1,4 @@
+pub mod BitLaws
+pub mod FlagLaws
+pub mod MarkLaws
+pub mod RuleLaws

@@ -1,0 +1,4 @@
+pub mod JudgeLaws
+pub mod RulingLaws
+pub mod TableLaws
+pub mod GivesLaws

@@ -1,0 +1,58 @@
+-- The records of a bench file. Document 01, "The bench": "records, each after a two-byte mark, numbers little-endian".
+--     u16At, u32At bs i       the number at an offset
+--     marked a b bs           the two-byte mark
+--     needs n bs d            d where n bytes are there, else Bad: "a cut record"
+--     decode first bs         what the bytes bs begin with; first: no record has been read yet
+-- Laws: proofs/RecordLaws.antt. Assumes nothing: these are definitions.
+use Prim.Native.Nat.{ℕ, _+_, _*_}
+use mathlib.Core.Bool.{Bool}
+use mathlib.Core.List.{List}
+use lib.ListN.{length, getD, take, drop}
+use lib.Dec.{eqb, leb}
+use Rattle.layout.specs.Choice.{pick, both}
+use Rattle.layout.specs.Layout.{blocksMax}
+use Rattle.blocks.specs.Kinds.{allKinds}
+use Rattle.records.specs.declared.Record.the-variants.{Ram, Write, Kind, Frame, Steps}
+use Rattle.records.specs.declared.Decoded.{Decoded}
+use Rattle.records.specs.declared.Decoded.the-variants.{End, Good, Bad}
+
+abbrev pub u16At : List ℕ → ℕ → ℕ
+u16At bs i = getD bs i 0 + getD bs (i + 1) 0 * 256
+
+abbrev pub u32At : List ℕ → ℕ → ℕ
+u32At bs i = u16At bs i + u16At bs (i + 2) * 65536
+
+abbrev pub marked : ℕ → ℕ → List ℕ → Bool
+marked a b bs = both (eqb (getD bs 0 0) a) (eqb (getD bs 1 0) b)
+
+-- "an unknown, cut or unfit record"
+abbrev pub needs : ℕ → List ℕ → Decoded → Decoded
+needs n bs d = pick (leb n (length bs)) d Bad
+
+-- "`RM` u16 N and N kinds (first, once)"
+unfoldable pub decodeRam : List ℕ → Decoded
+decodeRam bs =
+    let n = u16At bs 2 in
+    needs 4 bs
+    (pick (both (leb 1 n) (leb n blocksMax))
+    (needs (4 + n) bs (pick (allKinds (take n (drop 4 bs))) (Good (Ram n) (4 + n)) Bad))
+    Bad)
+
+-- "`ST` u8 engine (0 reset, 1 transmit, 2 receive, 3, 4 their teardowns), u8 count from 1"
+abbrev pub decodeSteps : List ℕ → Decoded
+decodeSteps bs = needs 4 bs (pick (both (leb (getD bs 2 0) 4) (leb 1 (getD bs 3 0))) (Good (Steps (getD bs 2 0) (getD bs 3 0)) 4) Bad)
+
+-- "`GW` u32 address, u32 value; `KC` u16 block, u8 kind; `FR` u16 length"
+unfoldable pub decodeLater : List ℕ → Decoded
+decodeLater bs =
+    pick (marked 71 87 bs) (needs 10 bs (Good (Write (u32At bs 2) (u32At bs 6)) 10))
+    (pick (marked 75 67 bs) (needs 5 bs (Good (Kind (u16At bs 2) (getD bs 4 0)) 5))
+    (pick (marked 70 82 bs) (needs 4 bs (Good (Frame (u16At bs 2)) 4))
+    (pick (marked 83 84 bs) (decodeSteps bs) Bad)))
+
+-- "A missing `RM`": nothing at all is one; one byte left over is a cut record
+unfoldable pub decode : Bool → List ℕ → Decoded
+decode first bs =
+    pick first
+    (needs 2 bs (pick (marked 82 77 bs) (decodeRam bs) Bad))
+    (pick (eqb (length bs) 0) End (needs 2 bs (decodeLater bs)))

@@ -1,0 +1,377 @@
+// The bench's two ends: the records that it reads, and the lines that it prints.
+// Promises: bytes are taken for a record exactly where document 01 has one, with its size; an unknown, cut or unfit record is called bad.
+// A line is stored in a lent buffer at a place that has room for it, byte for byte as document 01 has it, and nothing else of the buffer changes.
+// Document 01, "The bench".
+
+ghost use mathlib.Core.Path.{_≡_};
+ghost use Prim.Native.Nat.{_+_, _≤_, _<_};
+ghost use mathlib.Core.Bool.{true};
+ghost use lib.ListN.{length, getD};
+ghost use mathlib.Core.List.{_∷_, []};
+ghost use Rattle.records.specs.declared.Record.the-variants.{Write, Kind, Frame};
+ghost use Rattle.records.specs.declared.Decoded.the-variants.{Good};
+ghost use Rattle.records.specs.Records.{u16At, u32At, marked, needs, decodeRam, decodeSteps, decodeLater, decode};
+ghost use Rattle.records.specs.Lines.{wrote, changed, framed, moved, decimal, hexDigit, hex8, tailWith, lineWith, lineOf, sentLine, badLine, lineMax, Prints};
+use controller::Burst;
+
+// One record of a bench file. The kinds of a `Ram` record stand behind its four bytes of mark and N.
+pub enum Record {
+    Ram(u16),
+    Write(u32, u32),
+    Kind(u16, u8),
+    Frame(u16),
+    Steps(u8, u8),
+}
+
+// What stands next in a bench file: nothing, a record with its size in bytes, or something that is no record.
+pub enum Decoded {
+    End,
+    Good(Record, usize),
+    Bad,
+}
+
+// The sizes of the records, with their marks; an `RM` record is its head and N kinds.
+const MARK: usize = 2;
+
+const RAM_HEAD: usize = 4;
+
+const WRITE: usize = 10;
+
+const KIND: usize = 5;
+
+const FRAME: usize = 4;
+
+const STEPS: usize = 4;
+
+// The highest number of an engine.
+const ENGINE_MAX: u8 = 4;
+
+fn wide(x: u8) -> u16
+    ensures { λ r. ⌜ (r ≡ x) × (r < 256) ⌝ }
+{
+    x as u16
+}
+
+// The number of 16 bits at an offset.
+fn number16(bs: &[u8], at: usize) -> u16
+    requires { ⌜ at + 2 ≤ length (now bs) ⌝ }
+    ensures { λ r. ⌜ r ≡ u16At (now (bs .entry)) at ⌝ }
+{
+    wide(bs[at]) + wide(bs[at + 1]) * 256
+}
+
+fn wider(x: u16) -> u32
+    ensures { λ r. ⌜ (r ≡ x) × (r < 65536) ⌝ }
+{
+    x as u32
+}
+
+// The number of 32 bits at an offset.
+fn number32(bs: &[u8], at: usize) -> u32
+    requires { ⌜ at + 4 ≤ length (now bs) ⌝ }
+    ensures { λ r. ⌜ r ≡ u32At (now (bs .entry)) at ⌝ }
+{
+    wider(number16(bs, at)) + wider(number16(bs, at + 2)) * 65536
+}
+
+// Whether these two letters are the mark.
+fn is_marked(bs: &[u8], a: u8, b: u8) -> bool
+    requires { ⌜ 2 ≤ length (now bs) ⌝ }
+    ensures { λ r. ⌜ r ≡ marked a b (now (bs .entry)) ⌝ }
+{
+    if bs[0] != a {
+        return false;
+    }
+    bs[1] == b
+}
+
+// An `RM` record: N and the kinds are asked together.
+fn decode_ram(bs: &[u8]) -> Decoded
+    ensures { λ r. ⌜ r ≡ decodeRam (now (bs .entry)) ⌝ }
+{
+    if bs.len() < RAM_HEAD {
+        return Decoded::Bad;
+    }
+    let n = number16(bs, MARK);
+    let size = RAM_HEAD + n as usize;
+    if bs.len() < size {
+        return Decoded::Bad;
+    }
+    if !blocks::kinds_fit(&bs[RAM_HEAD..size]) {
+        return Decoded::Bad;
+    }
+    let record = Record::Ram(n);
+    Decoded::Good(record, size)
+}
+
+fn decode_write(bs: &[u8]) -> Decoded
+    ensures { λ r. ⌜ r ≡ needs 10 (now (bs .entry)) (Good (Write (u32At (now (bs .entry)) 2) (u32At (now (bs .entry)) 6)) 10) ⌝ }
+{
+    if bs.len() < WRITE {
+        return Decoded::Bad;
+    }
+    let a = number32(bs, 2);
+    let v = number32(bs, 6);
+    let record = Record::Write(a, v);
+    Decoded::Good(record, WRITE)
+}
+
+fn decode_kind(bs: &[u8]) -> Decoded
+    ensures { λ r. ⌜ r ≡ needs 5 (now (bs .entry)) (Good (Kind (u16At (now (bs .entry)) 2) (getD (now (bs .entry)) 4 0)) 5) ⌝ }
+{
+    if bs.len() < KIND {
+        return Decoded::Bad;
+    }
+    let b = number16(bs, 2);
+    let record = Record::Kind(b, bs[4]);
+    Decoded::Good(record, KIND)
+}
+
+fn decode_frame(bs: &[u8]) -> Decoded
+    ensures { λ r. ⌜ r ≡ needs 4 (now (bs .entry)) (Good (Frame (u16At (now (bs .entry)) 2)) 4) ⌝ }
+{
+    if bs.len() < FRAME {
+        return Decoded::Bad;
+    }
+    let n = number16(bs, 2);
+    let record = Record::Frame(n);
+    Decoded::Good(record, FRAME)
+}
+
+fn decode_steps(bs: &[u8]) -> Decoded
+    ensures { λ r. ⌜ r ≡ decodeSteps (now (bs .entry)) ⌝ }
+{
+    if bs.len() < STEPS {
+        return Decoded::Bad;
+    }
+    let engine = bs[2];
+    let count = bs[3];
+    if ENGINE_MAX < engine {
+        return Decoded::Bad;
+    }
+    if count < 1 {
+        return Decoded::Bad;
+    }
+    let record = Record::Steps(engine, count);
+    Decoded::Good(record, STEPS)
+}
+
+// A record that is not the first.
+fn decode_later(bs: &[u8]) -> Decoded
+    requires { ⌜ 2 ≤ length (now bs) ⌝ }
+    ensures { λ r. ⌜ r ≡ decodeLater (now (bs .entry)) ⌝ }
+{
+    if is_marked(bs, b'G', b'W') {
+        return decode_write(bs);
+    }
+    if is_marked(bs, b'K', b'C') {
+        return decode_kind(bs);
+    }
+    if is_marked(bs, b'F', b'R') {
+        return decode_frame(bs);
+    }
+    if is_marked(bs, b'S', b'T') {
+        return decode_steps(bs);
+    }
+    Decoded::Bad
+}
+
+fn decode_first(bs: &[u8]) -> Decoded
+    ensures { λ r. ⌜ r ≡ decode true (now (bs .entry)) ⌝ }
+{
+    if bs.len() < MARK {
+        return Decoded::Bad;
+    }
+    if !is_marked(bs, b'R', b'M') {
+        return Decoded::Bad;
+    }
+    decode_ram(bs)
+}
+
+// What the bytes that are left begin with. `first`: no record has been read yet.
+pub fn decode_record(bs: &[u8], first: bool) -> Decoded
+    ensures { λ r. ⌜ r ≡ decode first (now (bs .entry)) ⌝ }
+{
+    if first {
+        return decode_first(bs);
+    }
+    if bs.len() == 0 {
+        return Decoded::End;
+    }
+    if bs.len() < MARK {
+        return Decoded::Bad;
+    }
+    decode_later(bs)
+}
+
+// Room enough for any line: what a caller has to leave behind the place where it puts one.
+pub const LINE_MAX: usize = 64;
+
+// Stores a text where it is to stand, and gives where it ends. So does every `put_` function below.
+fn put_text(out: &mut [u8], at: usize, text: &[u8]) -> usize
+    requires { ⌜ at + length (now text) ≤ length (now out) ⌝ }
+    ensures { λ r. ⌜ Prints (now (out .entry)) at (now (text .entry)) (now (out .exit)) r ⌝ }
+{
+    let mut i = 0;
+    while i < text.len() {
+        out[at + i] = text[i];
+        i += 1;
+    }
+    at + i
+}
+
+fn put_byte(out: &mut [u8], at: usize, b: u8) -> usize
+    requires { ⌜ at < length (now out) ⌝ }
+    ensures { λ r. ⌜ Prints (now (out .entry)) at (b ∷ []) (now (out .exit)) r ⌝ }
+{
+    out[at] = b;
+    at + 1
+}
+
+fn count_digits(n: u64) -> usize
+    ensures { λ r. ⌜ r ≡ length (decimal n) ⌝ }
+{
+    let mut k: usize = 1;
+    let mut m = n;
+    while 10 <= m {
+        m = m / 10;
+        k += 1;
+    }
+    k
+}
+
+// The digits come from the last to the first, so they are counted before.
+fn put_decimal(out: &mut [u8], at: usize, n: u64) -> usize
+    requires { ⌜ at + 20 ≤ length (now out) ⌝ }
+    ensures { λ r. ⌜ Prints (now (out .entry)) at (decimal n) (now (out .exit)) r ⌝ }
+{
+    let end = at + count_digits(n);
+    let mut i = end - 1;
+    let mut m = n;
+    while 10 <= m {
+        out[i] = b'0' + (m % 10) as u8;
+        m = m / 10;
+        i -= 1;
+    }
+    out[i] = b'0' + m as u8;
+    end
+}
+
+fn hex_digit(d: u32) -> u8
+    requires { ⌜ d < 16 ⌝ }
+    ensures { λ r. ⌜ r ≡ hexDigit d ⌝ }
+{
+    if d < 10 {
+        return b'0' + d as u8;
+    }
+    b'A' - 10 + d as u8
+}
+
+fn put_hex8(out: &mut [u8], at: usize, a: u32) -> usize
+    requires { ⌜ at + 8 ≤ length (now out) ⌝ }
+    ensures { λ r. ⌜ Prints (now (out .entry)) at (hex8 a) (now (out .exit)) r ⌝ }
+{
+    let mut k: usize = 8;
+    let mut m = a;
+    while 0 < k {
+        k -= 1;
+        out[at + k] = hex_digit(m % 16);
+        m = m / 16;
+    }
+    at + 8
+}
+
+fn put_head(out: &mut [u8], at: usize, letter: u8) -> usize
+    requires { ⌜ at + 2 ≤ length (now out) ⌝ }
+    ensures { λ r. ⌜ Prints (now (out .entry)) at (letter ∷ 32 ∷ []) (now (out .exit)) r ⌝ }
+{
+    let blank = put_byte(out, at, letter);
+    put_byte(out, blank, b' ')
+}
+
+fn put_tail(out: &mut [u8], at: usize, n: u64) -> usize
+    requires { ⌜ at + 22 ≤ length (now out) ⌝ }
+    ensures { λ r. ⌜ Prints (now (out .entry)) at (tailWith n) (now (out .exit)) r ⌝ }
+{
+    let number = put_byte(out, at, b' ');
+    let newline = put_decimal(out, number, n);
+    put_byte(out, newline, b'\n')
+}
+
+// A line whose first part is an address.
+fn put_address_line(out: &mut [u8], at: usize, letter: u8, a: u32, n: u64) -> usize
+    requires { ⌜ at + lineMax ≤ length (now out) ⌝ }
+    ensures { λ r. ⌜ Prints (now (out .entry)) at (lineWith letter (hex8 a) n) (now (out .exit)) r ⌝ }
+{
+    let part = put_head(out, at, letter);
+    let tail = put_hex8(out, part, a);
+    put_tail(out, tail, n)
+}
+
+// A line whose first part is another number.
+fn put_number_line(out: &mut [u8], at: usize, letter: u8, b: u64, n: u64) -> usize
+    requires { ⌜ at + lineMax ≤ length (now out) ⌝ }
+    ensures { λ r. ⌜ Prints (now (out .entry)) at (lineWith letter (decimal b) n) (now (out .exit)) r ⌝ }
+{
+    let part = put_head(out, at, letter);
+    let tail = put_decimal(out, part, b);
+    put_tail(out, tail, n)
+}
+
+// The line of a guest write: its address and the answer.
+pub fn put_wrote(out: &mut [u8], at: usize, a: u32, n: u8) -> usize
+    requires { ⌜ at + lineMax ≤ length (now out) ⌝ }
+    ensures { λ r. ⌜ Prints (now (out .entry)) at (lineOf (wrote a n)) (now (out .exit)) r ⌝ }
+{
+    put_address_line(out, at, b'W', a, n as u64)
+}
+
+// The line of a kind change: its block and the answer.
+pub fn put_changed(out: &mut [u8], at: usize, b: u16, n: u8) -> usize
+    requires { ⌜ at + lineMax ≤ length (now out) ⌝ }
+    ensures { λ r. ⌜ Prints (now (out .entry)) at (lineOf (changed b n)) (now (out .exit)) r ⌝ }
+{
+    put_number_line(out, at, b'K', b as u64, n as u64)
+}
+
+// The line of a frame: its length and the answer.
+pub fn put_framed(out: &mut [u8], at: usize, l: u16, n: u8) -> usize
+    requires { ⌜ at + lineMax ≤ length (now out) ⌝ }
+    ensures { λ r. ⌜ Prints (now (out .entry)) at (lineOf (framed l n)) (now (out .exit)) r ⌝ }
+{
+    put_number_line(out, at, b'F', l as u64, n as u64)
+}
+
+// The line of a burst: its address and how many bytes it moves. A step without a burst has none.
+pub fn put_burst(out: &mut [u8], at: usize, b: Burst) -> usize
+    requires { ⌜ at + lineMax ≤ length (now out) ⌝ }
+    ensures { λ r. ⌜ Prints (now (out .entry)) at (lineOf (moved b)) (now (out .exit)) r ⌝ }
+{
+    match b {
+        Burst::Quiet => at,
+        Burst::Read(a, n) => put_address_line(out, at, b'R', a, n as u64),
+        Burst::Store(a, n) => put_address_line(out, at, b'S', a, n as u64),
+    }
+}
+
+// The last line of a run that read its whole input.
+pub fn put_sent(out: &mut [u8], at: usize, a: u64, b: u64) -> usize
+    requires { ⌜ at + lineMax ≤ length (now out) ⌝ }
+    ensures { λ r. ⌜ Prints (now (out .entry)) at (sentLine a b) (now (out .exit)) r ⌝ }
+{
+    let first = put_text(out, at, b"sent ");
+    let word = put_decimal(out, first, a);
+    let second = put_text(out, word, b" received ");
+    let newline = put_decimal(out, second, b);
+    put_byte(out, newline, b'\n')
+}
+
+// The last line of a run that met a bad record at that offset.
+pub fn put_bad(out: &mut [u8], at: usize, offset: u64) -> usize
+    requires { ⌜ at + lineMax ≤ length (now out) ⌝ }
+    ensures { λ r. ⌜ Prints (now (out .entry)) at (badLine offset) (now (out .exit)) r ⌝ }
+{
+    let number = put_text(out, at, b"bad record ");
+    let newline = put_decimal(out, number, offset);
+    put_byte(out, newline, b'\n')
+}

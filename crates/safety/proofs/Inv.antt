@@ -1,0 +1,274 @@
+-- The invariant: what holds of guard and controller between any two operations. Assumes nothing: these are definitions.
+-- All that is said of a queue is said of what the release would leave of it now (`leftT`, `leftR`); so what the book has not yet
+-- seen of the controller's work needs no clause. Every pointer in a clause is `start` of a list.
+--     Fit m                      descriptor memory is 8,192 bytes
+--     Held s                     both queues: links, words in use, recorded lengths
+--     Sendable, Fillable         descriptors still to be fetched: fresh, and in blocks of Linux; fresh, and as long as recorded
+--     Long lens w ds             each receive length is the recorded one
+--     Roomy K lens w ds          receive buffers at their recorded lengths lie in Linux data
+--     Ready F L h n              an engine before its queue: at teardown step 1 it is still to be used (F), at 2 it is torn down
+--     Spot w L first h n         an engine inside the first packet of L, at descriptor d: cs before it, rs behind
+--     Latched, Latch             the next that was latched, before and after EOQ is marked for it
+--     Owned F w L first h n l    a packet with its last descriptor marked, before OWNER is cleared: both sides
+--     Through F L h n l          between steps 5 and 6: L is what the next leads to
+--     TxInv, RxInv               the clause of each phase
+--     Shared c                   reset and marks: the book's, through the release's own rules, are the controller's
+--     Turn c p mark idle         teardown of one queue, likewise
+--     Good v, Inv s              the invariant of a view, and of a machine
+use Prim.Native.Nat.{ℕ, _+_, _≤_}
+use mathlib.Core.Path.{_≡_}
+use mathlib.Core.Bool.{Bool, true, false, not}
+use mathlib.Core.List.{List, [], _∷_, _++_}
+use mathlib.Core.Logic.{_⊎_, _≢_}
+use lib.ListN.{length, getD}
+use lib.Dec.{eqb}
+use Rattle.layout.specs.Choice.{pick, both}
+use Rattle.layout.specs.Layout.{descBytes, lengthMax, addressEnd, goodPtr, addr}
+use Rattle.layout.specs.declared.Side.the-variants.{Transmit, Receive}
+use Rattle.words.specs.Word.{word}
+use Rattle.words.proofs.WordLaws.{Bytes}
+use Rattle.blocks.specs.Kinds.{fitKinds}
+use Rattle.blocks.specs.Room.{roomOf}
+use Rattle.blocks.specs.declared.Room.the-variants.{Free}
+use Rattle.descriptor.specs.Fields.{eop, eoq, lengthOf}
+use Rattle.descriptor.specs.declared.Place.{Place}
+use Rattle.descriptor.specs.declared.Place.the-variants.{Start, Middle, Buffer}
+use Rattle.registers.specs.Pending.{tornDown}
+use Rattle.queue.specs.Queue.{start, All, Linked, Sole, Recorded, Fresh}
+use Rattle.queue.specs.Queue as queue
+use Rattle.queue.proofs.KeptLaws.{NoEop, Live}
+use Rattle.controller.specs.declared.Packet.{Packet}
+use Rattle.controller.specs.declared.Reading.{Reading}
+use Rattle.controller.specs.declared.Closing.{Closing}
+use Rattle.controller.specs.declared.Sending.{Sending}
+use Rattle.controller.specs.declared.Sending.the-variants as S
+use Rattle.controller.specs.declared.Frame.{Frame}
+use Rattle.controller.specs.declared.Storing.{Storing}
+use Rattle.controller.specs.declared.Filled.{Filled}
+use Rattle.controller.specs.declared.Stored.{Stored}
+use Rattle.controller.specs.declared.Receiving.{Receiving}
+use Rattle.controller.specs.declared.Receiving.the-variants as R
+use Rattle.machine.specs.Machine.{Machine}
+use Rattle.safety.proofs.View.{Post, Common, Store, View, build, marksOf, waiting, wordsOf, leftT, leftR}
+
+-- ---- memory and queues
+
+pub record Fit (m : List ℕ) : Type 0 where
+  pub size : length m ≡ descBytes
+  pub bytes : Bytes m
+
+pub record Held (s : Store) : Type 0 where
+  pub fit : Fit (s .mem)
+  pub kinds : fitKinds (s .kinds) ≡ true
+  pub linkT : Linked (word (s .mem)) (s .qt)
+  pub linkR : Linked (word (s .mem)) (s .qr)
+  pub sole : Sole (s .used) (s .qt ++ s .qr)
+  pub recorded : Recorded (s .lens) (s .qr)
+
+-- ---- what is still to be fetched
+
+pub record Sendable (K : List ℕ) (w : ℕ → ℕ) (pl : Place) (ds : List ℕ) : Type 0 where
+  pub fresh : Fresh w pl ds
+  pub room : queue.Roomy K Transmit w ds
+
+abbrev pub Long : List ℕ → (ℕ → ℕ) → List ℕ → Type 0
+Long lens w ds = All (λ d. lengthOf Receive (w (d + 2)) ≡ getD lens d 0) ds
+
+pub record Fillable (lens : List ℕ) (w : ℕ → ℕ) (ds : List ℕ) : Type 0 where
+  pub fresh : Fresh w Buffer ds
+  pub long : Long lens w ds
+
+-- of the whole receive queue, also of what was fetched: the controller shrinks a length in word 2, not the recorded one
+abbrev pub Roomy : List ℕ → List ℕ → (ℕ → ℕ) → List ℕ → Type 0
+Roomy K lens w ds = All (λ d. roomOf Receive K (w (d + 1)) (getD lens d 0) ≡ Free) ds
+
+-- ---- where an engine stands; h is HDP, n the teardown step that comes next
+
+-- before its queue: it is still to be used, or TD was set at its head
+pub record Ready (F : List ℕ → Type 0) (L : List ℕ) (h n : ℕ) : Type 0 where
+  pub good : goodPtr h ≡ true
+  pub state : ((n ≡ 1) × (start L ≡ h) × F L) ⊎ ((n ≡ 2) × (L ≡ []))
+
+-- inside the first packet, or frame, of the queue: at d
+pub record Spot (w : ℕ → ℕ) (L : List ℕ) (first h n : ℕ) : Type 0 where
+  pub cs : List ℕ
+  pub d : ℕ
+  pub rs : List ℕ
+  pub split : L ≡ cs ++ d ∷ rs
+  pub top : first ≡ start L
+  pub here : h ≡ addr d
+  pub small : d ≤ 2044
+  pub before : All (NoEop w) cs
+  pub live : Live w L
+  pub stage : n ≡ 1
+
+-- the next that was latched behind d: an append may have come after it
+abbrev pub Latched : List ℕ → ℕ → Type 0
+Latched rs l = (l ≡ 0) ⊎ ((l ≡ start rs) × (l ≢ 0))
+
+-- and EOQ where it was 0
+abbrev pub Latch : (ℕ → ℕ) → ℕ → List ℕ → ℕ → Type 0
+Latch w d rs l = ((l ≡ 0) × (eoq (w (d + 3)) ≡ true)) ⊎ ((l ≡ start rs) × (eoq (w (d + 3)) ≡ false) × (l ≢ 0))
+
+-- transmit step 5 and receive step 5
+pub record Owned (F : List ℕ → Type 0) (w : ℕ → ℕ) (L : List ℕ) (first h n l : ℕ) : Type 0 where
+  pub spot : Spot w L first h n
+  pub todo : F (spot .rs)
+  pub last : eop (w (spot .d + 3)) ≡ true
+  pub latch : Latch w (spot .d) (spot .rs) l
+
+-- transmit step 6 and receive step 6: nothing is said of the finished packet, whose words may be in use anew
+pub record Through (F : List ℕ → Type 0) (L : List ℕ) (h n l : ℕ) : Type 0 where
+  pub good : goodPtr h ≡ true
+  pub stage : n ≡ 1
+  pub next : start L ≡ l
+  pub todo : F L
+
+-- ---- the transmit engine
+
+-- the place behind a descriptor that was fetched
+abbrev pub placeAfter : Bool → ℕ → ℕ → Place
+placeAfter eop word3 sum = pick eop Start (Middle word3 sum)
+
+pub record AtWithin (K : List ℕ) (w : ℕ → ℕ) (L : List ℕ) (h n : ℕ) (p : Packet) : Type 0 where
+  pub spot : Spot w L (p .sop) h n
+  pub todo : Sendable K w (Middle (p .word3) (p .sum)) (spot .d ∷ spot .rs)
+
+-- steps 2 and 3: d was fetched
+pub record Fetched (K : List ℕ) (w : ℕ → ℕ) (L : List ℕ) (h n sop word3 sum l : ℕ) (end : Bool) : Type 0 where
+  pub spot : Spot w L sop h n
+  pub todo : Sendable K w (placeAfter end word3 sum) (spot .rs)
+  pub next : end ≡ false → l ≡ start (spot .rs)
+  pub last : eop (w (spot .d + 3)) ≡ end
+  pub clean : eoq (w (spot .d + 3)) ≡ false
+
+pub record AtMoving (K : List ℕ) (w : ℕ → ℕ) (L : List ℕ) (h n : ℕ) (r : Reading) : Type 0 where
+  pub fetched : Fetched K w L h n (r .sop) (r .word3) (r .sum) (r .next) (r .eop)
+  pub some : 1 ≤ r .left
+  pub below : r .at + r .left ≤ addressEnd
+  pub room : roomOf Transmit K (r .at) (r .left) ≡ Free
+
+pub record AtMarking (K : List ℕ) (w : ℕ → ℕ) (L : List ℕ) (h n : ℕ) (c : Closing) : Type 0 where
+  pub spot : Spot w L (c .sop) h n
+  pub todo : Sendable K w Start (spot .rs)
+  pub last : eop (w (spot .d + 3)) ≡ true
+  pub clean : eoq (w (spot .d + 3)) ≡ false
+  pub latch : Latched (spot .rs) (c .next)
+
+abbrev pub TxInv : List ℕ → (ℕ → ℕ) → List ℕ → ℕ → ℕ → Sending → Type 0
+TxInv K w L h n S.Idle = L ≡ []
+TxInv K w L h n S.New = Ready (Sendable K w Start) L h n
+TxInv K w L h n (S.Within p) = AtWithin K w L h n p
+TxInv K w L h n (S.Moving r) = AtMoving K w L h n r
+TxInv K w L h n (S.Ended e) = Fetched K w L h n (e .sop) (e .word3) (e .sum) (e .next) (e .eop)
+TxInv K w L h n (S.Marking c) = AtMarking K w L h n c
+TxInv K w L h n (S.Owning c) = Owned (Sendable K w Start) w L (c .sop) h n (c .next)
+TxInv K w L h n (S.Done l) = Through (Sendable K w Start) L h n l
+
+abbrev pub idleTx : Sending → Bool
+idleTx S.Idle = true
+idleTx S.New = false
+idleTx (S.Within p) = false
+idleTx (S.Moving r) = false
+idleTx (S.Ended e) = false
+idleTx (S.Marking c) = false
+idleTx (S.Owning c) = false
+idleTx (S.Done l) = false
+
+-- ---- the receive engine
+
+pub record AtFetch (lens : List ℕ) (w : ℕ → ℕ) (L : List ℕ) (h n : ℕ) (f : Frame) : Type 0 where
+  pub spot : Spot w L (f .first) h n
+  pub todo : Fillable lens w (spot .d ∷ spot .rs)
+  pub some : 1 ≤ f .left
+  pub short : f .stored + f .left ≤ lengthMax
+
+-- steps 2 to 4: d was fetched and is not yet marked
+pub record Taken (lens : List ℕ) (w : ℕ → ℕ) (L : List ℕ) (h n first : ℕ) : Type 0 where
+  pub spot : Spot w L first h n
+  pub todo : Fillable lens w (spot .rs)
+  pub noEop : NoEop w (spot .d)
+  pub clean : eoq (w (spot .d + 3)) ≡ false
+
+pub record AtStoring (lens : List ℕ) (w : ℕ → ℕ) (L : List ℕ) (h n : ℕ) (s : Storing) : Type 0 where
+  pub taken : Taken lens w L h n (s .first)
+  pub more : 1 ≤ s .left
+  pub some : 1 ≤ s .room
+  pub short : s .stored + s .left ≤ lengthMax
+  pub from : w (taken .spot .d + 1) ≤ s .at
+  pub until : s .at + s .room ≡ w (taken .spot .d + 1) + getD lens (taken .spot .d) 0
+  pub below : s .at + s .room ≤ addressEnd
+  pub few : s .here ≤ s .stored
+
+pub record AtFilled (lens : List ℕ) (w : ℕ → ℕ) (L : List ℕ) (h n : ℕ) (e : Filled) : Type 0 where
+  pub taken : Taken lens w L h n (e .first)
+  pub short : e .stored + e .left ≤ lengthMax
+  pub few : e .here ≤ e .stored
+
+pub record AtLast (lens : List ℕ) (w : ℕ → ℕ) (L : List ℕ) (h n : ℕ) (s : Stored) : Type 0 where
+  pub taken : Taken lens w L h n (s .first)
+  pub short : s .stored ≤ lengthMax
+  pub few : s .here ≤ s .stored
+  pub latch : Latched (taken .spot .rs) (s .next)
+
+pub record AtFirst (lens : List ℕ) (w : ℕ → ℕ) (L : List ℕ) (h n : ℕ) (s : Stored) : Type 0 where
+  pub owned : Owned (Fillable lens w) w L (s .first) h n (s .next)
+  pub short : s .stored ≤ lengthMax
+
+abbrev pub RxInv : List ℕ → (ℕ → ℕ) → List ℕ → ℕ → ℕ → Receiving → Type 0
+RxInv lens w L h n R.Idle = L ≡ []
+RxInv lens w L h n R.Wait = Ready (Fillable lens w) L h n
+RxInv lens w L h n (R.Fetch f) = AtFetch lens w L h n f
+RxInv lens w L h n (R.Moving s) = AtStoring lens w L h n s
+RxInv lens w L h n (R.Ended e) = AtFilled lens w L h n e
+RxInv lens w L h n (R.Last s) = AtLast lens w L h n s
+RxInv lens w L h n (R.First s) = AtFirst lens w L h n s
+RxInv lens w L h n (R.Done l) = Through (Fillable lens w) L h n l
+
+abbrev pub idleRx : Receiving → Bool
+idleRx R.Idle = true
+idleRx R.Wait = false
+idleRx (R.Fetch f) = false
+idleRx (R.Moving s) = false
+idleRx (R.Ended e) = false
+idleRx (R.Last s) = false
+idleRx (R.First s) = false
+idleRx (R.Done l) = false
+
+-- ---- reset, marks, teardown: what the book lags behind is what the release's first two rules take away
+
+abbrev pub over : Common → Bool
+over c = both (c .bookReset) (not (c .bit))
+
+pub record Shared (c : Common) : Type 0 where
+  pub resets : pick (over c) false (c .bookReset) ≡ c .reset
+  pub marks : pick (over c) (false ∷ false ∷ false ∷ false ∷ []) (c .bookMarks) ≡ marksOf c
+  pub bits : c .bit ≡ c .reset
+  pub ready : c .reset ≡ true → waiting c ≡ false
+
+-- one queue: mark is that of its HDP, idle says that its engine is
+pub record Turn (c : Common) (p : Post) (mark idle : Bool) : Type 0 where
+  pub settles : pick (eqb (p .cp) tornDown) false (p .booked) ≡ p .torn
+  pub young : p .torn ≡ true → p .cp ≢ tornDown
+  pub stage : p .torn ≡ false → p .stage ≡ 1
+  pub lasts : p .booked ≡ true → p .torn ≡ false → idle ≡ true
+  pub alone : c .reset ≡ true → p .torn ≡ false
+  pub ready : p .torn ≡ true → waiting c ≡ false
+  pub asleep : waiting c ≡ true → idle ≡ true
+  pub zeroed : mark ≡ true → idle ≡ true → p .hdp ≡ 0
+
+-- ---- all together
+
+pub record Good (v : View) : Type 0 where
+  pub held : Held (v .store)
+  pub shared : Shared (v .common)
+  pub turnT : Turn (v .common) (v .t) (v .common .m0) (idleTx (v .tx))
+  pub turnR : Turn (v .common) (v .r) (v .common .m1) (idleRx (v .rx))
+  pub tx : TxInv (v .store .kinds) (wordsOf v) (leftT v) (v .t .hdp) (v .t .stage) (v .tx)
+  pub rx : RxInv (v .store .lens) (wordsOf v) (leftR v) (v .r .hdp) (v .r .stage) (v .rx)
+  pub room : Roomy (v .store .kinds) (v .store .lens) (wordsOf v) (leftR v)
+
+pub record Inv (s : Machine) : Type 0 where
+  pub view : View
+  pub is : s ≡ build view
+  pub good : Good view

@@ -1,0 +1,235 @@
+-- A kind change keeps the invariant: "18, 19, 20, then 21 if the new kind is not 1 and a receive buffer in the book, at its
+-- handed-over length, touches the block". Ownership never changes, so that what was judged for transmission stays so.
+-- Assumes nothing.
+--     sendable-kind, tx-kind   a block that stays Linux's changes its kind: what is to be sent, and the transmit engine's clause
+--     Changed b k s            what an accepted kind change has asked
+--     KindOutcome, judgeKind-changed   and it has; the world that it leaves
+--     setKindsOf               the view with other kinds
+--     kind-calm                a released view stays one
+--     isOwned kinds i          block i is Linux's
+--     ownership-kept           no operation changes whose a block is
+use Prim.Native.Nat.{ℕ, _≤_, _<_}
+use mathlib.Core.Path.{_≡_, refl, ap, _∙_, sym}
+use mathlib.Core.Bool.{Bool, true, false, not}
+use mathlib.Core.List.{List, [], _∷_}
+use mathlib.Core.Logic.{inl, inr, _≢_}
+use native.Mathlib.Omega.{arith}
+use lib.ListN.{length, getD, set}
+use lib.Seq.{getD-set-same, getD-set-other}
+use lib.Dec.{eqb, ltb, leb}
+use borrow.Author.Tests.{ne-eqb, eqb-true, eqb-false, ltb-true, leb-true}
+use Rattle.layout.specs.Choice.{pick, both}
+use Rattle.layout.proofs.ChoiceLaws.{both-left, both-right}
+use Rattle.layout.specs.declared.Side.the-variants.{Transmit}
+use Rattle.words.specs.Word.{word}
+use Rattle.blocks.specs.Room.{permits}
+use Rattle.blocks.proofs.KindLaws.{set-keeps-fitKinds}
+use Rattle.blocks.proofs.RoomLaws.{room-set-permits}
+use Rattle.descriptor.specs.declared.Place.{Place}
+use Rattle.descriptor.specs.declared.Place.the-variants.{Start, Middle}
+use Rattle.descriptor.specs.Rules.{sideAt}
+use Rattle.registers.specs.Pending.{some}
+use Rattle.book.specs.World.{World, setKinds, unfit, soundWorld, release}
+use Rattle.queue.proofs.RoomyLaws.{fresh-some, roomy-kind, room-now-kind}
+use Rattle.guard.specs.declared.Effect.the-variants.{Plain}
+use Rattle.guard.specs.Answers.{numberOf, Outcome, accept, refuse}
+use Rattle.guard.specs.Judges.{judge}
+use Rattle.guard.specs.Guard.{inReception, judgeKind, admitted, guestWrite, kindChange}
+use Rattle.controller.specs.declared.Sending.{Sending}
+use Rattle.controller.specs.declared.Sending.the-variants as S
+use Rattle.controller.specs.Controller.{unguardedWrite}
+use Rattle.machine.specs.Machine.{Machine, Happened, worldOf, carriedOut, Op, write, kind, frame, step, apply, applyWrite, applyKind, applyFrame, applyStep}
+use Rattle.safety.proofs.View.{View, wordsOf}
+use Rattle.safety.proofs.Inv.{Sendable, placeAfter, Fetched, TxInv}
+use Rattle.safety.proofs.Frame.{ready-map, through-map}
+use Rattle.safety.proofs.Calm.{Calm}
+use Rattle.safety.proofs.Refusals.{pick-holds, release-kinds, Verdict, kind-verdict}
+use Rattle.safety.proofs.Allowed.{judge-kinds}
+
+-- ---- kinds: "Kinds 1 to 4 are owned by Linux"
+
+module _ (K : List ℕ) (b k : ℕ) (own : permits Transmit k ≡ true) (w : ℕ → ℕ) where
+  pub sendable-kind : (pl : Place) (ds : List ℕ) → sideAt pl ≡ Transmit → Sendable K w pl ds → Sendable (set K b k) w pl ds
+  sendable-kind pl ds e s = record {
+    fresh = s .fresh;
+    room = roomy-kind K Transmit w b k ds own (rw e at (fresh-some w pl ds (s .fresh))) (s .room);
+  }
+
+  place-side : (end : Bool) (x n : ℕ) → sideAt (placeAfter end x n) ≡ Transmit
+  place-side true x n = refl
+  place-side false x n = refl
+
+  fetched-kind : (L : List ℕ) {h n p w3 sum l : ℕ} {e : Bool} → Fetched K w L h n p w3 sum l e → Fetched (set K b k) w L h n p w3 sum l e
+  fetched-kind L {h} {n} {p} {w3} {sum} {l} {e} f = record {
+    spot = f .spot;
+    todo = sendable-kind (placeAfter e w3 sum) (f .spot .rs) (place-side e w3 sum) (f .todo);
+    next = f .next;
+    last = f .last;
+    clean = f .clean;
+  }
+
+  pub tx-kind : (L : List ℕ) (h n : ℕ) (ph : Sending) → TxInv K w L h n ph → TxInv (set K b k) w L h n ph
+  tx-kind L h n S.Idle t = t
+  tx-kind L h n S.New t = ready-map (Sendable K w Start) (Sendable (set K b k) w Start) L h n (sendable-kind Start L refl) t
+  tx-kind L h n (S.Within p) t = record { spot = t .spot; todo = sendable-kind (Middle (p .word3) (p .sum)) (t .spot .d ∷ t .spot .rs) refl (t .todo) }
+  tx-kind L h n (S.Moving r) t = record {
+    fetched = fetched-kind L (t .fetched);
+    some = t .some;
+    below = t .below;
+    room = room-set-permits Transmit K (r .at) (r .left) b k (t .room) (t .some) own;
+  }
+  tx-kind L h n (S.Ended e) t = fetched-kind L t
+  tx-kind L h n (S.Marking c) t = record {
+    spot = t .spot;
+    todo = sendable-kind Start (t .spot .rs) refl (t .todo);
+    last = t .last;
+    clean = t .clean;
+    latch = t .latch;
+  }
+  tx-kind L h n (S.Owning c) t = record {
+    spot = t .spot;
+    todo = sendable-kind Start (t .spot .rs) refl (t .todo);
+    last = t .last;
+    latch = t .latch;
+  }
+  tx-kind L h n (S.Done l) t = through-map (Sendable K w Start) (Sendable (set K b k) w Start) L h n l (sendable-kind Start L refl) t
+
+-- ---- what an accepted kind change has asked
+
+pub record Changed (b k : ℕ) (s : World) : Type 0 where
+  pub there : b < length (s .kinds)
+  pub low : 1 ≤ k
+  pub high : k ≤ 4
+  pub owned : getD (s .kinds) b 0 ≢ 0
+  pub clear : both (not (eqb k 1)) (inReception (word (s .mem)) (s .lens) b) ≡ false
+
+-- the outcome is a refusal, or the change of that block
+pub record KindOutcome (b k : ℕ) (s : World) (o : Outcome) : Type 0 where
+  pub changed : numberOf (o .answer) ≡ 0 → Changed b k s
+  pub world : numberOf (o .answer) ≡ 0 → o .world ≡ setKinds (set (s .kinds) b k) s
+
+refuse-kind : (b k : ℕ) (s : World) (n : ℕ) → n ≢ 0 → KindOutcome b k s (refuse n s)
+refuse-kind b k s n h = record { changed = λ e. absurd (h e); world = λ e. absurd (h e) }
+
+both-one : (t : Bool) → both t true ≡ t
+both-one true = refl
+both-one false = refl
+
+pick-one : (t : Bool) → pick t true false ≡ t
+pick-one true = refl
+pick-one false = refl
+
+pub judgeKind-changed : (b k : ℕ) (s : World) → KindOutcome b k s (judgeKind (b ∷ []) k s)
+unfolding judgeKind
+judgeKind-changed b k s = at _ _ _ _ refl refl refl refl
+  where
+    at : (t1 t2 t3 t4 : Bool) → both (ltb b (length (s .kinds))) true ≡ t1 → both (leb 1 k) (leb k 4) ≡ t2
+        → pick (eqb (getD (s .kinds) b 0) 0) true false ≡ t3
+        → both (not (eqb k 1)) (pick (inReception (word (s .mem)) (s .lens) b) true false) ≡ t4
+        → KindOutcome b k s
+        (pick t1 (pick t2 (pick t3 (refuse 20 s) (pick t4 (refuse 21 s) (accept Plain (setKinds (set (s .kinds) b k) s)))) (refuse 19 s)) (refuse 18 s))
+    at false t2 t3 t4 p q r u = refuse-kind b k s 18 (omega arith)
+    at true false t3 t4 p q r u = refuse-kind b k s 19 (omega arith)
+    at true true true t4 p q r u = refuse-kind b k s 20 (omega arith)
+    at true true false true p q r u = refuse-kind b k s 21 (omega arith)
+    at true true false false p q r u = record {
+      changed = λ e. record {
+        there = ltb-true b (length (s .kinds)) (both-left _ _ p);
+        low = leb-true 1 k (both-left _ _ q);
+        high = leb-true k 4 (both-right (leb 1 k) (leb k 4) q);
+        owned = eqb-false (getD (s .kinds) b 0) 0 (sym (pick-one _) ∙ r);
+        clear = ap (λ (t : Bool). both (not (eqb k 1)) t) (sym (pick-one _)) ∙ u;
+      };
+      world = λ e. refl;
+    }
+
+-- ---- a released view stays one
+
+abbrev pub setKindsOf : List ℕ → View → View
+setKindsOf kinds u = record {
+  store = record { mem = u .store .mem; kinds = kinds; used = u .store .used; lens = u .store .lens; qt = u .store .qt; qr = u .store .qr };
+  t = u .t;
+  r = u .r;
+  common = u .common;
+  tx = u .tx;
+  rx = u .rx;
+  sent = u .sent;
+  received = u .received;
+}
+
+-- "19 new kind not 1..4": every new kind is Linux's
+kind-owned : (k : ℕ) → 1 ≤ k → permits Transmit k ≡ true
+kind-owned k h = simp (ne-eqb k 0 (λ e. omega arith))
+
+pub kind-calm : (u : View) → Calm u → (b k : ℕ) → 1 ≤ k → k ≤ 4 → both (not (eqb k 1)) (inReception (wordsOf u) (u .store .lens) b) ≡ false
+    → Calm (setKindsOf (set (u .store .kinds) b k) u)
+kind-calm u c b k low high clear =
+    let s = u .store in
+    let h = c .held in
+    record {
+      held = record {
+        fit = h .fit;
+        kinds = set-keeps-fitKinds (s .kinds) b k high (h .kinds);
+        linkT = h .linkT;
+        linkR = h .linkR;
+        sole = h .sole;
+        recorded = h .recorded;
+      };
+      bits = c .bits;
+      ready = c .ready;
+      dutyT = c .dutyT;
+      dutyR = c .dutyR;
+      tx = tx-kind (s .kinds) b k (kind-owned k low) (wordsOf u) (s .qt) (u .t .hdp) (u .t .stage) (u .tx) (c .tx);
+      rx = c .rx;
+      room = room-now-kind (s .kinds) (s .lens) (wordsOf u) b k (s .qr) clear (h .recorded .there) (c .room);
+    }
+
+-- ---- whose a block is: "Kinds 1 to 4 are owned by Linux"
+
+abbrev pub isOwned : List ℕ → ℕ → Bool
+isOwned kinds i = permits Transmit (getD kinds i 0)
+
+set-owned : (K : List ℕ) (b k i : ℕ) → b < length K → getD K b 0 ≢ 0 → 1 ≤ k → isOwned (set K b k) i ≡ isOwned K i
+set-owned K b k i l o h = at (eqb i b) refl
+  where
+    at : (t : Bool) → eqb i b ≡ t → isOwned (set K b k) i ≡ isOwned K i
+    at true e = let z = eqb-true i b e in rw (z, getD-set-same K b k 0 l) (kind-owned k h ∙ sym (ap not (ne-eqb (getD K b 0) 0 o)))
+    at false e = rw (getD-set-other K b i k 0 (eqb-false i b e)) refl
+
+-- the kinds after a guard call are as they were but for one block, which was Linux's and is
+admitted-owned : (s : World) (act : World → Outcome) (i : ℕ) → ((t : World) → isOwned (act t .world .kinds) i ≡ isOwned (t .kinds) i)
+    → isOwned (admitted s act .world .kinds) i ≡ isOwned (s .kinds) i
+unfolding admitted
+admitted-owned s act i f =
+    pick-holds (λ (o : Outcome). isOwned (o .world .kinds) i ≡ isOwned (s .kinds) i) (unfit s) _ _ refl
+    (pick-holds (λ (o : Outcome). isOwned (o .world .kinds) i ≡ isOwned (s .kinds) i) (soundWorld s) _ _ (f (release s) ∙ released) refl)
+  where
+    released : isOwned (release s .kinds) i ≡ isOwned (s .kinds) i
+    released = ap (λ (K : List ℕ). isOwned K i) (release-kinds s)
+
+judgeKind-owned : (b k : ℕ) (s : World) (i : ℕ) → isOwned (judgeKind (b ∷ []) k s .world .kinds) i ≡ isOwned (s .kinds) i
+judgeKind-owned b k s i = at (judgeKind (b ∷ []) k s) (kind-verdict (b ∷ []) k s) (judgeKind-changed b k s)
+  where
+    at : (o : Outcome) → Verdict s o → KindOutcome b k s o → isOwned (o .world .kinds) i ≡ isOwned (s .kinds) i
+    at o (inl r) x = ap (λ (y : Outcome). isOwned (y .world .kinds) i) (r .is)
+    at o (inr a) x =
+        let z : numberOf (o .answer) ≡ 0 = ap numberOf (a .is) in
+        let c = x .changed z in
+        ap (λ (y : World). isOwned (y .kinds) i) (x .world z) ∙ set-owned (s .kinds) b k i (c .there) (c .owned) (c .low)
+
+carried-kinds : (a x : ℕ) (o : Outcome) (s : Machine) → carriedOut a x o s .machine .kinds ≡ o .world .kinds
+carried-kinds a x o s =
+    pick-holds kept (eqb (numberOf (o .answer)) 0) _ _ (pick-holds kept (eqb (unguardedWrite a x (s .ctl) (o .world .mem) .number) 0) _ _ refl refl) refl
+  where
+    kept : Happened → Type 0
+    kept h = h .machine .kinds ≡ o .world .kinds
+
+-- no operation changes whose a block is
+pub ownership-kept : (o : Op) (s : Machine) (i : ℕ) → isOwned (apply o s .machine .kinds) i ≡ isOwned (s .kinds) i
+unfolding applyWrite applyKind applyFrame applyStep guestWrite kindChange
+ownership-kept (write a x) s i =
+    ap (λ (K : List ℕ). isOwned K i) (carried-kinds a x (guestWrite a x (worldOf s)) s)
+    ∙ admitted-owned (worldOf s) (λ t. judge a x t) i (λ t. ap (λ (K : List ℕ). isOwned K i) (judge-kinds a x t))
+ownership-kept (kind b k) s i = admitted-owned (worldOf s) (λ t. judgeKind (b ∷ []) k t) i (λ t. judgeKind-owned b k t i)
+ownership-kept (frame n) s i = refl
+ownership-kept (step e) s i = refl
