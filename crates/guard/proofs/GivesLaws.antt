@@ -46,7 +46,7 @@ use Rattle.guard.specs.Rulings.{decided, starting, headRuling, registerR
 
 module _ (m k : List ℕ) (b : Book) (u l : List ℕ) (r : Regs) where
   -- ---- results without the tables
-  refused-gives : (n : ℕ) → Gives (refuse n (worldAt m k b u l r)) (refusedDone n b r) m k u l
+  pub refused-gives : (n : ℕ) → Gives (refuse n (worldAt m k b u l r)) (refusedDone n b r) m k u l
   refused-gives n = record { answer = refl; book = refl; regs = refl; mem = refl; kinds = refl; used = refl; lens = refl }
 
   written-gives : (x : Written)

@@ -2,3 +2,4 @@ pub mod JudgeLaws
 pub mod RulingLaws
 pub mod TableLaws
 pub mod GivesLaws
+pub mod KindLaws

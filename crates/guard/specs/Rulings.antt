@@ -3,14 +3,15 @@
 --     Ruling                 a result, and whether the chain has still to be judged
 --     headRuling, registerRuling   HDP, and any register, without the tables
 --     handedOver, appended   a chain that is judged and, without fault, taken; and its address stored in word k
+--     kindNumber, kindOutcome      a kind change: 18 to 21, and the kind table
 --     inDescriptors a        the address lies in descriptor memory
 --     lastOutcome, wordOutcome     a word of descriptor memory: answer, words in use and lengths, descriptor memory
 -- Assumes nothing: these are definitions.
 use Prim.Native.Nat.{ℕ, _+_}
 use mathlib.Core.Bool.{Bool, true, false, not}
 use mathlib.Core.List.{List}
-use lib.ListN.{getD, set}
-use lib.Dec.{eqb, ltb}
+use lib.ListN.{length, getD, set}
+use lib.Dec.{eqb, leb, ltb}
 use Rattle.layout.specs.Choice.{pick, both}
 use Rattle.layout.specs.Layout.{descFirst, descBytes}
 use Rattle.layout.specs.declared.Side.{Side}
@@ -31,6 +32,7 @@ use Rattle.guard.specs.declared.Done.{Done}
 use Rattle.guard.specs.declared.Ruling.{Ruling}
 use Rattle.guard.specs.Answers.{refusedDone, acceptedDone, ruled}
 use Rattle.guard.specs.Judges.{isLast}
+use Rattle.guard.specs.Guard.{inReception}
 
 abbrev pub decided : Done → Ruling
 decided d = record { done = d; chain = false }
@@ -94,3 +96,16 @@ wordOutcome k v kinds m t r u =
 -- "Descriptor memory is 8,192 bytes at 0x4A102000 to 0x4A103FFF"
 unfoldable pub inDescriptors : ℕ → Bool
 inDescriptors a = both (not (ltb a descFirst)) (ltb a (descFirst + descBytes))
+
+-- 18 to 21 of the change of one block, and the kind table after it
+unfoldable pub kindNumber : ℕ → ℕ → (ℕ → ℕ) → List ℕ → List ℕ → ℕ
+kindNumber b k w lens kinds =
+    pick (ltb b (length kinds))
+    (pick (both (leb 1 k) (leb k 4))
+    (pick (eqb (getD kinds b 0) 0) 20 (pick (both (not (eqb k 1)) (inReception w lens b)) 21 0))
+    19)
+    18
+
+unfoldable pub kindOutcome : ℕ → ℕ → (ℕ → ℕ) → List ℕ → List ℕ → ℕ × List ℕ
+kindOutcome b k w lens kinds =
+    pick (eqb (kindNumber b k w lens kinds) 0) (0, set kinds b k) (kindNumber b k w lens kinds, kinds)

@@ -4,6 +4,7 @@
 // caller for a fit and sound one, and answer the same. Document 01, "Answers by number", "The book and the release", "Judging".
 
 use blocks::kinds_fit;
+use blocks::touches_block;
 use book::Book;
 use book::is_sound;
 use book::release_book;
@@ -47,12 +48,13 @@ ghost use Prim.Native.Nat.{ℕ, _+_, _-_, _/_, _≤_, _<_};
 ghost use lib.ListN.{length};
 ghost use Rattle.layout.specs.Layout.{goodPtr, wordOf};
 ghost use Rattle.words.specs.Word.{word};
+ghost use Rattle.blocks.specs.Room.{touches};
 ghost use Rattle.registers.specs.Pending.{sideOf};
 ghost use Rattle.registers.specs.Rules.{ackFault, ackWritten, teardownFault, teardownWritten, resetFault, resetWritten, zeroFault};
 ghost use Rattle.book.specs.World.{fitParts, unfit, soundWorld, release};
 ghost use Rattle.guard.specs.Answers.{verdictNumber, worldAt, Gives, numberOf, effectOf, numberOfSide, sideNumber, refusedDone, acceptedDone, ruled};
 ghost use Rattle.guard.specs.Judges.{lastOf, isLast, judgeWord, judgeClass, judge};
-ghost use Rattle.guard.specs.Rulings.{answerTo, decided, starting, headRuling, registerRuling, handedOver, appended, lastOutcome, wordOutcome, inDescriptors};
+ghost use Rattle.guard.specs.Rulings.{answerTo, decided, starting, headRuling, registerRuling, handedOver, appended, lastOutcome, wordOutcome, inDescriptors, kindNumber, kindOutcome};
 ghost use Rattle.guard.specs.Guard.{guestWrite, inReception, judgeKind, kindChange};
 
 const HDP_LAST: u8 = HDP + 1;
@@ -630,4 +632,143 @@ pub fn guest_write(
         return refuse(2, b, r);
     }
     write_released(a, v, m, kinds, b, r, used, lens, &mut met)
+}
+
+// Whether a receive buffer of the recorded length n, whose descriptor begins at word i, touches block b.
+fn is_touching(m: &[u8], i: usize, n: u16, b: u32) -> bool
+    requires { ⌜ length (now m) ≡ 8192 ⌝ }
+    ensures { λ r. ⌜ r ≡ touches b (word (now (m .entry)) (i + 1)) n ⌝ }
+{
+    if n == 0 {
+        return false;
+    }
+    if 2047 <= i {
+        return false;
+    }
+    touches_block(b, word_of(m, i + 1), n as u32)
+}
+
+// Whether a receive buffer in the book, at its handed-over length, touches block b.
+fn in_reception(m: &[u8], lens: &[u16], b: u32) -> bool
+    requires { ⌜ length (now m) ≡ 8192 ⌝ }
+    ensures { λ r. ⌜ r ≡ inReception (word (now (m .entry))) (now (lens .entry)) b ⌝ }
+{
+    let mut i: usize = 0;
+    while i < lens.len() {
+        if is_touching(m, i, lens[i], b) {
+            return true;
+        }
+        i += 1;
+    }
+    false
+}
+
+// 18 to 21 for the change of block b to kind k, or 0.
+fn kind_fault(b: u32, k: u32, m: &[u8], kinds: &[u8], lens: &[u16; 2048]) -> u8
+    requires { ⌜ length (now m) ≡ 8192 ⌝ }
+    ensures { λ r. ⌜ r ≡ kindNumber b k (word (now (m .entry))) (now (lens .entry)) (now (kinds .entry)) ⌝ }
+{
+    let at = b as usize;
+    if kinds.len() <= at {
+        return 18;
+    }
+    if k < 1 {
+        return 19;
+    }
+    if 4 < k {
+        return 19;
+    }
+    if kinds[at] == 0 {
+        return 20;
+    }
+    if k == 1 {
+        return 0;
+    }
+    if in_reception(m, lens, b) {
+        return 21;
+    }
+    0
+}
+
+// The change of block b to kind k: refused by its number, or made.
+fn change_block(b: u32, k: u32, m: &[u8], kinds: &mut [u8], lens: &[u16; 2048]) -> u8
+    requires { ⌜ length (now m) ≡ 8192 ⌝ }
+    ensures { λ r. ⌜ (r, now (kinds .exit)) ≡ kindOutcome b k (word (now (m .entry))) (now (lens .entry)) (now (kinds .entry)) ⌝ }
+{
+    let n = kind_fault(b, k, m, kinds, lens);
+    if n != 0 {
+        return n;
+    }
+    let at = b as usize;
+    kinds[at] = k as u8;
+    0
+}
+
+// The release, then the change.
+fn change_released(
+    block: u32,
+    kind: u32,
+    m: &[u8],
+    kinds: &mut [u8],
+    b: Book,
+    r: Regs,
+    used: &mut [u8; 2048],
+    lens: &mut [u16; 2048],
+) -> Done
+    requires { ⌜ length (now m) ≡ 8192 ⌝ }
+    ensures { λ d. ⌜ Gives (judgeKind (block ∷ []) kind (release (worldAt (now (m .entry)) (now (kinds .entry)) b (now (used .entry)) (now (lens .entry)) r))) d
+        (now (m .entry)) (now (kinds .exit)) (now (used .exit)) (now (lens .exit)) ⌝ }
+{
+    let c = release_book(m, b, r, used, lens);
+    let n = change_block(block, kind, m, kinds, lens);
+    let a = answer_to(Effect::Plain, n);
+    Done {
+        answer: a,
+        book: c,
+        regs: r,
+    }
+}
+
+// A kind change on a state that is known to be fit and sound.
+pub fn kind_change_sound(
+    block: u32,
+    kind: u32,
+    m: &[u8],
+    kinds: &mut [u8],
+    b: Book,
+    r: Regs,
+    used: &mut [u8; 2048],
+    lens: &mut [u16; 2048],
+) -> Done
+    requires { ⌜ (unfit (worldAt (now m) (now kinds) b (now used) (now lens) r) ≡ false)
+        × (soundWorld (worldAt (now m) (now kinds) b (now used) (now lens) r) ≡ true) ⌝ }
+    ensures { λ d. ⌜ Gives (kindChange block kind (worldAt (now (m .entry)) (now (kinds .entry)) b (now (used .entry)) (now (lens .entry)) r)) d
+        (now (m .entry)) (now (kinds .exit)) (now (used .exit)) (now (lens .exit)) ⌝ }
+{
+    change_released(block, kind, m, kinds, b, r, used, lens)
+}
+
+// The change of a block's kind, on any state: unfit 1, unsound 2.
+pub fn kind_change(
+    block: u32,
+    kind: u32,
+    m: &[u8],
+    kinds: &mut [u8],
+    b: Book,
+    r: Regs,
+    used: &mut [u8; 2048],
+    lens: &mut [u16; 2048],
+) -> Done
+    ensures { λ d. ⌜ Gives (kindChange block kind (worldAt (now (m .entry)) (now (kinds .entry)) b (now (used .entry)) (now (lens .entry)) r)) d
+        (now (m .entry)) (now (kinds .exit)) (now (used .exit)) (now (lens .exit)) ⌝ }
+{
+    if !is_fit(m, kinds) {
+        return refuse(1, b, r);
+    }
+    let mut met = [0u8; 2048];
+    let heads = b.heads;
+    if !is_sound(m, heads, used, lens, &mut met) {
+        return refuse(2, b, r);
+    }
+    change_released(block, kind, m, kinds, b, r, used, lens)
 }
