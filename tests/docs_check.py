@@ -10,7 +10,7 @@ text = (top / "docs" / "DEFINITIONS.md").read_text(encoding="utf-8")
 wrong = []
 named = set()
 for line in text.splitlines():
-    if not line.startswith("| ") or line.startswith("| sentence") or line.startswith("|---"):
+    if not line.startswith("| ") or " | definitions | " in line or line.startswith("|---"):
         continue
     cells = [c.strip() for c in line.strip().strip("|").split(" | ")]
     if len(cells) != 3:
