@@ -3,3 +3,4 @@ pub mod RulingLaws
 pub mod TableLaws
 pub mod GivesLaws
 pub mod KindLaws
+pub mod Settled
