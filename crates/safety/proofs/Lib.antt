@@ -20,3 +20,4 @@ pub mod RegisterWrites
 pub mod Numbers
 pub mod KindChanges
 pub mod Always
+pub mod What

@@ -250,13 +250,13 @@ start-verdict q p s = verdict-fault s _ _ (chainOf-number _ _ _ _ _) (accepted s
 head-verdict : (q v : ℕ) (s : World) → Verdict s (judgeHead q v s)
 unfolding judgeHead
 head-verdict q v s =
-    verdict-fault s (headFault (s .book .flags) (s .regs) q v) _ (headFault-number _ _ _ _)
+    verdict-fault s _ _ (headFault-number _ _ _ _)
     (verdict-pick s (awaiting (s .book .flags)) _ _ (accepted s _ _)
     (verdict-pick s (eqb (headOf s q) 0) _ _ (start-verdict q v s) (refused s 10 refl refl)))
 
 register-verdict : (n v : ℕ) (s : World) → Verdict s (judgeRegister n v s)
 unfolding judgeRegister
-register-verdict n v s = verdict-fault s (registerFault (s .book .flags) (s .regs) n v) _ (registerFault-number _ _ _ _) (accepted s _ _)
+register-verdict n v s = verdict-fault s _ _ (registerFault-number _ _ _ _) (accepted s _ _)
 
 append-verdict : (side : Side) (k p : ℕ) (s : World) → Verdict s (judgeAppend side k p s)
 unfolding judgeAppend

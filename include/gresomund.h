@@ -1,0 +1,126 @@
+/* gresomund.h: the guard between Linux and the Ethernet controller's DMA engine, for a hypervisor's trap handler.
+ *
+ * Linux may not write the DMA registers and the descriptor memory itself: its stores trap. For each such store the trap handler asks
+ * the guard, which answers with a number. 0: the store may be carried out. Anything else: it must not be. The guard keeps a book of what
+ * has been handed to the DMA engine, so that what was judged cannot be changed while the engine uses it.
+ *
+ * Each function below is proved to give, for every input, the answer and the arrays that the definitions in crates/guard/specs give on
+ * the state in the arrays (crates/api/specs, `called` and `crossed`). The proofs are about the compiled module's source, on x86-64;
+ * tools/retarget makes the object for the board from the same module, and says what is not proved of it.
+ *
+ * ONE CALL IS ONE WHOLE EVENT. Reading the device, the call, and carrying out the accepted store must not be interleaved with another
+ * guard call, on any processor: take a lock around the three. The guard keeps no state of its own; all of it is lent by the caller.
+ *
+ * WHAT TO LEND. No pointer may be null, except those of `mem` and `kinds` with length 0 (answered 1); arrays must not overlap.
+ *   mem, mem_len     the descriptor memory, 8,192 bytes as it reads now at 0x4A102000 (a copy, or the memory itself where the device's
+ *                    marks may be read as plain memory). An accepted store to it is already made in `mem` by the call.
+ *   kinds, blocks    one byte for each 4 KiB block of RAM from 0x80000000: 0 not Linux's, 1 Linux data, 2 Linux executable, 3 first-level
+ *                    page table, 4 second-level page table. 1 to 16,384 of them. Only gresomund_kind_change may change it.
+ *   state            the small state, below. The caller fills in the five registers before every call, as the device has them.
+ *   used             one byte for each word of descriptor memory: 1 while it is in use. Only the guard may change it.
+ *   lens             one length for each word of descriptor memory, kept at the first word of each receive descriptor in use.
+ *                    Only the guard may change it.
+ *
+ * WHAT COMES BACK. One word: see gresomund_number, gresomund_effect and gresomund_side. `state`, `used`, `lens`, `mem` and `kinds` are
+ * then as the answer says: after 1 and 2 nothing has changed; after any other refusal only descriptors that the engine is done with were
+ * released from the book; after 0 the write is in the book.
+ *
+ * WHAT THE CALLER DOES, in order:
+ *   1. state.hdp, state.cp and state.bit are read from the device (TX0_HDP, RX0_HDP, TX0_CP, RX0_CP, bit 0 of CPDMA_SOFT_RESET), and
+ *      `mem` is brought up to date.
+ *   2. The call.
+ *   3. On 0, exactly that store (address, value) is carried out on the device; on 4, the guard has no opinion, and the handler does as it
+ *      does for the page; on anything else it is dropped.
+ * After 3 the registers in `state` are forgotten: they are read again for the next call.
+ *
+ * WHICH ENTRY. gresomund_guest_write and gresomund_kind_change may be called on any arrays: what is unfit is answered 1, what is unsound
+ * 2. Those named _sound do not look, and cost less: they may be called only where mem_len is 8,192, blocks is 1 to 16,384, no kind is
+ * over 4 and the book is sound. That is so when it was begun by gresomund_fresh with an idle device, and the book and the kinds were
+ * since changed by nothing but these functions, and words in use were changed by nothing but the device. Called on anything else they
+ * promise nothing, not even to stay within the arrays.
+ *
+ * The object needs memset and memmove, nothing else. Its deepest stack is below 3 KiB and does not grow with the chain
+ * (docs/PERFORMANCE.md, held by tests/c). */
+#ifndef GRESOMUND_H
+#define GRESOMUND_H
+
+#include <stdint.h>
+
+#ifdef __cplusplus
+extern "C" {
+#endif
+
+#define GRESOMUND_MEM_FIRST 0x4A102000u /* address of the first byte of descriptor memory */
+#define GRESOMUND_MEM_BYTES 8192u
+#define GRESOMUND_WORDS 2048u           /* words of descriptor memory: entries of `used` and of `lens` */
+#define GRESOMUND_BLOCKS_MAX 16384u
+
+/* Queue 0 transmits, queue 1 receives. Sixteen words without padding; a flag is 0 or 1. */
+struct gresomund_state {
+  uint32_t heads[2]; /* the book: address of each queue's first descriptor, 0 for an empty queue */
+  uint32_t marks[4]; /* the book: TX0_HDP, RX0_HDP, TX0_CP, RX0_CP have been zeroed since the last reset */
+  uint32_t reset;    /* the book: a reset is pending */
+  uint32_t torn[2];  /* the book: a teardown of that queue is pending */
+  uint32_t hdp[2];   /* the device, read before each call: TX0_HDP, RX0_HDP */
+  uint32_t cp[2];    /* the device, read before each call: TX0_CP, RX0_CP */
+  uint32_t bit;      /* the device, read before each call: bit 0 of CPDMA_SOFT_RESET */
+  uint32_t spare[2]; /* never read, never changed */
+};
+
+/* The refusal numbers; the lowest that applies is given. docs/REFUSALS.md says who meets which, and what to change. */
+enum gresomund_number {
+  GRESOMUND_ACCEPTED = 0,
+  GRESOMUND_UNFIT = 1,           /* mem_len is not 8,192, blocks is not 1..16,384, or a kind is over 4 */
+  GRESOMUND_UNSOUND = 2,         /* the book is not sound, or a flag word is neither 0 nor 1 (whatever else is wrong) */
+  GRESOMUND_UNALIGNED = 3,       /* address not a multiple of 4 */
+  GRESOMUND_NOT_GUARDED = 4,     /* address not guarded */
+  GRESOMUND_NOT_OFFERED = 5,     /* register not offered */
+  GRESOMUND_NOT_INITIALISED = 6, /* the four zeros are missing */
+  GRESOMUND_RESET_PENDING = 7,
+  GRESOMUND_TEARDOWN_PENDING = 8,
+  GRESOMUND_BAD_VALUE = 9,
+  GRESOMUND_BUSY = 10,
+  GRESOMUND_WORD_IN_USE = 11,
+  GRESOMUND_BAD_POINTER = 12,    /* descriptor pointer */
+  GRESOMUND_OVERLAP = 13,        /* a word of the descriptor is in use, or met earlier in this chain */
+  GRESOMUND_FLAGS = 14,
+  GRESOMUND_LENGTH = 15,         /* length or offset */
+  GRESOMUND_BUFFER = 16,         /* buffer not permitted */
+  GRESOMUND_UNFINISHED = 17,     /* packet unfinished, or lengths do not add up */
+  GRESOMUND_NO_BLOCK = 18,       /* kind change: no such block */
+  GRESOMUND_BAD_KIND = 19,       /* kind change: new kind not 1..4 */
+  GRESOMUND_NOT_LINUX = 20,      /* kind change: block not Linux's */
+  GRESOMUND_IN_RECEPTION = 21    /* kind change: a receive buffer in the book touches the block */
+};
+
+/* What an accepted call did. */
+enum gresomund_effect { GRESOMUND_NONE = 0, GRESOMUND_PLAIN = 1, GRESOMUND_STARTED = 2, GRESOMUND_APPENDED = 3 };
+
+/* On which side it started or appended; 0 for anything else. */
+enum gresomund_side { GRESOMUND_NO_SIDE = 0, GRESOMUND_TRANSMIT = 1, GRESOMUND_RECEIVE = 2 };
+
+/* The three parts of an answer. */
+static inline unsigned gresomund_number(uint32_t answer) { return answer & 255u; }
+static inline unsigned gresomund_effect(uint32_t answer) { return (answer >> 8) & 255u; }
+static inline unsigned gresomund_side(uint32_t answer) { return (answer >> 16) & 255u; }
+
+/* An empty book that awaits the four zeros, and zero registers. For an idle device: at the start, or after a reset. */
+void gresomund_fresh(struct gresomund_state *state, uint8_t used[GRESOMUND_WORDS], uint16_t lens[GRESOMUND_WORDS]);
+
+/* Linux stores `value` at `address`. Lengths are 64 bits wide, on the 32-bit board too. */
+uint32_t gresomund_guest_write(uint32_t address, uint32_t value, uint8_t *mem, uint64_t mem_len, const uint8_t *kinds, uint64_t blocks,
+                               struct gresomund_state *state, uint8_t used[GRESOMUND_WORDS], uint16_t lens[GRESOMUND_WORDS]);
+uint32_t gresomund_guest_write_sound(uint32_t address, uint32_t value, uint8_t *mem, uint64_t mem_len, const uint8_t *kinds, uint64_t blocks,
+                                     struct gresomund_state *state, uint8_t used[GRESOMUND_WORDS], uint16_t lens[GRESOMUND_WORDS]);
+
+/* Block `block` becomes of kind `kind`: on 0 it is already so in `kinds`. */
+uint32_t gresomund_kind_change(uint32_t block, uint32_t kind, const uint8_t *mem, uint64_t mem_len, uint8_t *kinds, uint64_t blocks,
+                               struct gresomund_state *state, uint8_t used[GRESOMUND_WORDS], uint16_t lens[GRESOMUND_WORDS]);
+uint32_t gresomund_kind_change_sound(uint32_t block, uint32_t kind, const uint8_t *mem, uint64_t mem_len, uint8_t *kinds, uint64_t blocks,
+                                     struct gresomund_state *state, uint8_t used[GRESOMUND_WORDS], uint16_t lens[GRESOMUND_WORDS]);
+
+#ifdef __cplusplus
+}
+#endif
+
+#endif
