@@ -4,12 +4,23 @@
 #include <stdio.h>
 #include <stdlib.h>
 
+/* -DPLAIN: the plain writing of the same rules (tests/plain) in the guard's place. */
+#ifdef PLAIN
+write_call plain_guest_write, plain_guest_write_sound;
+typedef uint32_t kind_call(uint32_t, uint32_t, const uint8_t *, uint64_t, uint8_t *, uint64_t, struct gresomund_state *, uint8_t *, uint16_t *);
+kind_call plain_kind_change, plain_kind_change_sound;
+#define gresomund_guest_write plain_guest_write
+#define gresomund_guest_write_sound plain_guest_write_sound
+#define gresomund_kind_change plain_kind_change
+#define gresomund_kind_change_sound plain_kind_change_sound
+#endif
+
 static struct scene s, keep;
 
 /* The only function that calls the guard while counting. */
 static __attribute__((noinline)) uint32_t counted(int inner, int kind, uint32_t a, uint32_t v) {
-  if (kind) return inner ? change_inner(&s, a, v) : change(&s, a, v);
-  return inner ? write_inner(&s, a, v) : write_full(&s, a, v);
+  if (kind) return (inner ? gresomund_kind_change_sound : gresomund_kind_change)(a, v, s.mem, sizeof s.mem, s.kinds, s.blocks, &s.state, s.used, s.lens);
+  return call_with(inner ? gresomund_guest_write_sound : gresomund_guest_write, &s, a, v);
 }
 
 int main(int argc, char **argv) {

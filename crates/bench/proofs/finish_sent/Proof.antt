@@ -1,0 +1,21 @@
+-- `bench::finish_sent`: the line ends within the buffer. Assumes nothing.
+use borrow.Author.Needs.{needs}
+use Rattle.records.proofs.LineLaws.{length-sentLine}
+use Rattle.bench.proofs.WindowLaws.{line-room}
+use Rattle.bench.proofs.finish_sent.Statement.{statement}
+use Rattle.bench.proofs.finish_sent.Tie as tie
+
+put-sent-requires : tie.Need-put-sent-requires
+put-sent-requires c κs = search needs
+
+emit-requires : tie.Need-emit-requires
+emit-requires c κs = line-room (c .before .before .before .put-sent .ensures) (length-sentLine _ _) (c .before .before .before .before .before .before .pre)
+
+same-length : tie.Need-same-length
+same-length c = search needs
+
+returns : tie.Need-returns
+returns c = search needs
+
+pub finish-sent-spec : {M : Type 1} → statement M
+finish-sent-spec = tie.close (tie.spec put-sent-requires emit-requires same-length returns)
