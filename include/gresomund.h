@@ -12,8 +12,9 @@
  * guard call, on any processor: take a lock around the three. The guard keeps no state of its own; all of it is lent by the caller.
  *
  * WHAT TO LEND. No pointer may be null, except those of `mem` and `kinds` with length 0 (answered 1); arrays must not overlap.
- *   mem, mem_len     the descriptor memory, 8,192 bytes as it reads now at 0x4A102000 (a copy, or the memory itself where the device's
- *                    marks may be read as plain memory). An accepted store to it is already made in `mem` by the call.
+ *   mem, mem_len     the descriptor memory, 8,192 bytes as it reads now at 0x4A102000. An accepted store to it is already made in `mem` by the
+ *                    call, in bytes: nothing promises that the device would see it as one store. So lend a copy in plain memory, and carry
+ *                    the accepted store out on the device as one word; whoever lends the device's own memory answers for this.
  *   kinds, blocks    one byte for each 4 KiB block of RAM from 0x80000000: 0 not Linux's, 1 Linux data, 2 Linux executable, 3 first-level
  *                    page table, 4 second-level page table. 1 to 16,384 of them. Only gresomund_kind_change may change it.
  *   state            the small state, below. The caller fills in the five registers before every call, as the device has them.

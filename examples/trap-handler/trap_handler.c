@@ -54,9 +54,12 @@ static struct gresomund_state state;
 static uint8_t used[GRESOMUND_WORDS];
 static uint16_t lens[GRESOMUND_WORDS];
 static uint8_t kinds[16];
+static uint8_t mem[GRESOMUND_MEM_BYTES]; /* a copy of descriptor memory: the guard stores in bytes, the device must see whole words */
 
-/* The device as the guard may see it. On the board `mem` is the descriptor memory itself, and this reads five registers. */
+/* The device as the guard may see it: descriptor memory and five registers. Words not in use change through `on_store` alone, so a hypervisor may
+ * copy only the descriptors in use, whose marks the device writes. */
 static void look(void) {
+  memcpy(mem, device.mem, sizeof mem);
   memcpy(state.hdp, device.hdp, sizeof state.hdp);
   memcpy(state.cp, device.cp, sizeof state.cp);
   state.bit = device.bit;
@@ -67,7 +70,7 @@ static uint32_t on_store(uint32_t address, uint32_t value) {
   look();
   /* The inner entry: the book was begun by gresomund_fresh in `start`, and only these two functions change book and kinds. A hypervisor that
    * cannot say that calls gresomund_guest_write. */
-  uint32_t answer = gresomund_guest_write_sound(address, value, device.mem, sizeof device.mem, kinds, sizeof kinds, &state, used, lens);
+  uint32_t answer = gresomund_guest_write_sound(address, value, mem, sizeof mem, kinds, sizeof kinds, &state, used, lens);
   if (gresomund_number(answer) == GRESOMUND_ACCEPTED) device_store(address, value); /* exactly this store */
   return answer;
 }
@@ -75,7 +78,7 @@ static uint32_t on_store(uint32_t address, uint32_t value) {
 /* Linux asks that a block become of another kind. */
 static uint32_t on_kind(uint32_t block, uint32_t kind) {
   look();
-  return gresomund_kind_change_sound(block, kind, device.mem, sizeof device.mem, kinds, sizeof kinds, &state, used, lens);
+  return gresomund_kind_change_sound(block, kind, mem, sizeof mem, kinds, sizeof kinds, &state, used, lens);
 }
 
 static void start(void) {
