@@ -9,6 +9,7 @@ use records::Record;
 use records::decode_record;
 use replay::Played;
 use replay::play;
+use replay::put_totals;
 ghost use mathlib.Core.Path.{_≡_};
 ghost use Prim.Native.Nat.{_+_, _*_, _≤_, _<_};
 ghost use mathlib.Core.Logic.{_⊎_};
@@ -119,10 +120,10 @@ fn flush(out: &[u8], at: usize) -> usize
 }
 
 // The last line, after those gathered, is written out.
-fn finish_sent(out: &mut [u8], at: usize, sent: u64, received: u64)
+fn finish_sent(out: &mut [u8], at: usize, c: Controller)
     requires { ⌜ at + 64 ≤ length (now out) ⌝ }
 {
-    let end = records::put_sent(out, at, sent, received);
+    let end = put_totals(c, out, at);
     emit(out, end);
 }
 
@@ -210,7 +211,7 @@ fn act(
 {
     match d {
         Decoded::End => {
-            finish_sent(out, at, c.sent, c.received);
+            finish_sent(out, at, c);
             stop(c, b, offset)
         }
         Decoded::Bad => {

@@ -1,3 +1,4 @@
 pub mod RecordLaws
+pub mod SizeLaws
 pub mod LineLaws
 pub mod PrintLaws

@@ -3,7 +3,7 @@
 --     marked a b bs           the two-byte mark
 --     needs n bs d            d where n bytes are there, else Bad: "a cut record"
 --     decode first bs         what the bytes bs begin with; first: no record has been read yet
--- Laws: proofs/RecordLaws.antt. Assumes nothing: these are definitions.
+-- Laws: proofs/RecordLaws.antt, proofs/SizeLaws.antt. Assumes nothing: these are definitions.
 use Prim.Native.Nat.{ℕ, _+_, _*_}
 use mathlib.Core.Bool.{Bool}
 use mathlib.Core.List.{List}

@@ -207,6 +207,10 @@ pub fn decode_record(bs: &[u8], first: bool) -> Decoded
 // Room enough for any line: what a caller has to leave behind the place where it puts one.
 pub const LINE_MAX: usize = 64;
 
+const BLANK: u8 = b' ';
+
+const NEWLINE: u8 = b'\n';
+
 // Stores a text where it is to stand, and gives where it ends. So does every `put_` function below.
 fn put_text(out: &mut [u8], at: usize, text: &[u8]) -> usize
     requires { ⌜ at + length (now text) ≤ length (now out) ⌝ }
@@ -286,16 +290,16 @@ fn put_head(out: &mut [u8], at: usize, letter: u8) -> usize
     ensures { λ r. ⌜ Prints (now (out .entry)) at (letter ∷ 32 ∷ []) (now (out .exit)) r ⌝ }
 {
     let blank = put_byte(out, at, letter);
-    put_byte(out, blank, b' ')
+    put_byte(out, blank, BLANK)
 }
 
 fn put_tail(out: &mut [u8], at: usize, n: u64) -> usize
     requires { ⌜ at + 22 ≤ length (now out) ⌝ }
     ensures { λ r. ⌜ Prints (now (out .entry)) at (tailWith n) (now (out .exit)) r ⌝ }
 {
-    let number = put_byte(out, at, b' ');
+    let number = put_byte(out, at, BLANK);
     let newline = put_decimal(out, number, n);
-    put_byte(out, newline, b'\n')
+    put_byte(out, newline, NEWLINE)
 }
 
 // A line whose first part is an address.
@@ -363,7 +367,7 @@ pub fn put_sent(out: &mut [u8], at: usize, a: u64, b: u64) -> usize
     let word = put_decimal(out, first, a);
     let second = put_text(out, word, b" received ");
     let newline = put_decimal(out, second, b);
-    put_byte(out, newline, b'\n')
+    put_byte(out, newline, NEWLINE)
 }
 
 // The last line of a run that met a bad record at that offset.
@@ -373,5 +377,5 @@ pub fn put_bad(out: &mut [u8], at: usize, offset: u64) -> usize
 {
     let number = put_text(out, at, b"bad record ");
     let newline = put_decimal(out, number, offset);
-    put_byte(out, newline, b'\n')
+    put_byte(out, newline, NEWLINE)
 }

@@ -5,22 +5,23 @@
 use book::Book;
 use controller::Controller;
 use controller::Engine;
-use controller::step_by;
-use controller::take_frame_by;
 use guard::answer_number;
+use host::hosted;
+use host::hosted_frame;
 use machine::apply_kind;
 use machine::apply_write;
 use records::Record;
 use records::put_burst;
 use records::put_changed;
 use records::put_framed;
+use records::put_sent;
 use records::put_wrote;
 ghost use mathlib.Core.Path.{_≡_};
 ghost use Prim.Native.Nat.{_+_, _*_, _≤_, _<_};
 ghost use lib.ListN.{length};
 ghost use Rattle.machine.specs.After.{machineAt};
 ghost use Rattle.records.specs.declared.Record.the-variants.{Write, Kind, Frame};
-ghost use Rattle.records.specs.Lines.{lineMax};
+ghost use Rattle.records.specs.Lines.{lineMax, sentLine, Prints};
 ghost use Rattle.replay.specs.Replay.{engineOf, stepsOf, recordOf};
 ghost use Rattle.replay.specs.Plays.{Plays, withBook, Goes, Comes};
 
@@ -62,7 +63,7 @@ fn play_step(e: Engine, c: Controller, m: &mut [u8], out: &mut [u8], at: usize) 
     ensures { λ r. ⌜ r .end ≤ at + lineMax ⌝ }
     ensures { λ r. ⌜ Goes (stepsOf e 1) c (now (m .entry)) r (now (m .exit)) (now (out .entry)) at (now (out .exit)) ⌝ }
 {
-    let s = step_by(c, m, e);
+    let s = hosted(c, m, e);
     let burst = s.burst;
     let end = put_burst(out, at, burst);
     let ctl = s.ctl;
@@ -142,7 +143,7 @@ pub fn play_frame(n: u16, c: Controller, out: &mut [u8], at: usize) -> Ran
     ensures { λ r. ⌜ r .end ≤ at + lineMax ⌝ }
     ensures { λ r. ⌜ Comes (recordOf (Frame n)) c r (now (out .entry)) at (now (out .exit)) ⌝ }
 {
-    let x = take_frame_by(c, n as u32);
+    let x = hosted_frame(c, n as u32);
     let end = put_framed(out, at, n, x.number);
     let ctl = x.ctl;
     Ran { ctl, end }
@@ -188,4 +189,12 @@ pub fn play(
         Record::Frame(n) => with_book(play_frame(n, c, out, at), b),
         Record::Steps(e, n) => with_book(play_steps(engine_of(e), n, c, m, out, at), b),
     }
+}
+
+// The line of the totals: packet lengths summed, sent and received.
+pub fn put_totals(c: Controller, out: &mut [u8], at: usize) -> usize
+    requires { ⌜ at + lineMax ≤ length (now out) ⌝ }
+    ensures { λ r. ⌜ Prints (now (out .entry)) at (sentLine (c .sent) (c .received)) (now (out .exit)) r ⌝ }
+{
+    put_sent(out, at, c.sent, c.received)
 }

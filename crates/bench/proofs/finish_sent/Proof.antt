@@ -5,11 +5,11 @@ use Rattle.bench.proofs.WindowLaws.{line-room}
 use Rattle.bench.proofs.finish_sent.Statement.{statement}
 use Rattle.bench.proofs.finish_sent.Tie as tie
 
-put-sent-requires : tie.Need-put-sent-requires
-put-sent-requires c κs = search needs
+put-totals-requires : tie.Need-put-totals-requires
+put-totals-requires c κs = search needs
 
 emit-requires : tie.Need-emit-requires
-emit-requires c κs = line-room (c .before .before .before .put-sent .ensures) (length-sentLine _ _) (c .before .before .before .before .before .before .pre)
+emit-requires c κs = line-room (c .before .before .before .put-totals .ensures) (length-sentLine _ _) (c .before .before .before .before .before .before .pre)
 
 same-length : tie.Need-same-length
 same-length c = search needs
@@ -18,4 +18,4 @@ returns : tie.Need-returns
 returns c = search needs
 
 pub finish-sent-spec : {M : Type 1} → statement M
-finish-sent-spec = tie.close (tie.spec put-sent-requires emit-requires same-length returns)
+finish-sent-spec = tie.close (tie.spec put-totals-requires emit-requires same-length returns)

@@ -5,8 +5,8 @@ use Rattle.replay.proofs.PlayLaws.{line-end, frame-goes}
 use Rattle.replay.proofs.play_frame.Statement.{statement}
 use Rattle.replay.proofs.play_frame.Tie as tie
 
-take-frame-by-requires : tie.Need-take-frame-by-requires
-take-frame-by-requires c κs = search needs
+hosted-frame-requires : tie.Need-hosted-frame-requires
+hosted-frame-requires c κs = search needs
 
 put-framed-requires : tie.Need-put-framed-requires
 put-framed-requires c κs = search needs
@@ -15,7 +15,7 @@ same-length : tie.Need-same-length
 same-length c = search needs
 
 returns : tie.Need-returns
-returns c = (line-end (c .before .before .before .put-framed .ensures) (length-lineOf _), frame-goes _ _ _ _ _ _ _ (c .before .before .before .before .before .take-frame-by .ensures) (c .before .before .before .put-framed .ensures))
+returns c = (line-end (c .before .before .before .put-framed .ensures) (length-lineOf _), frame-goes _ _ _ _ _ _ _ (c .before .before .before .before .before .hosted-frame .ensures) (c .before .before .before .put-framed .ensures))
 
 pub play-frame-spec : {M : Type 1} → statement M
-play-frame-spec = tie.close (tie.spec take-frame-by-requires put-framed-requires same-length returns)
+play-frame-spec = tie.close (tie.spec hosted-frame-requires put-framed-requires same-length returns)
