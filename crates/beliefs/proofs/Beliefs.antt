@@ -11,7 +11,7 @@ use mathlib.Core.Path.{_≡_, refl}
 use mathlib.Core.Bool.{true, false}
 use mathlib.Core.List.{List, [], _∷_, _++_}
 use Rattle.layout.specs.Run.{run}
-use Rattle.layout.specs.Layout.{goodPtr, wordOf, addr}
+use Rattle.layout.specs.Layout.{goodPtr, wordOf, inDescriptors, addr}
 use Rattle.layout.specs.Class.{ruleOf, classOf, classAt}
 use Rattle.words.specs.Word.{wordAt, putWord, word, put}
 use Rattle.words.specs.WordSet.{emptySet, has, freeAt, addFour, dropFour, freeCount, inUse, view}
@@ -73,7 +73,7 @@ pub record EmptyQueue : Type 0 where
   pub accepted : numberFor (write txHdp (addr 4)) (runOps (packet 4 ++ step Transmit ∷ []) releasedEarly) ≡ 0
 
 pub no-empty-queue-idle : EmptyQueue
-unfolding run goodPtr wordOf ruleOf classOf classAt wordAt putWord word put emptySet has freeAt addFour dropFour freeCount inUse view fitKinds roomFor roomOf touches sop eop owner eoq td packetLength lengthOf offsetOf firstByte flagsFault lengthFault endFault sumFault behind nextFault ownFault fetchFault setBit clearBit putLength marked lastMarked sideOf awaiting anyTorn headFault ackFault teardownFault resetFault zeroFault byClass registerFault headWritten ackWritten written blockFault descFault judgeStep chainOf walkStep walkFrom walkAll firstStep firstsFrom sound takeOne dropOne takeStep takenFrom plan releaseStep releasedFrom releasedAll releasedFlags fitParts unfit soundWorld release judgeHead judgeRegister lastOf isLast judgeAppend judgeLast judgeWord judgeClass judge admitted guestWrite inReception judgeKind kindChange fetch readBurst close markEoq octetsOf clearOwn finish sendStep transmitStep receiveStep tearMark tearStep resetStep stepOf frameOf registerWrite unguardedWrite freshController applyWrite applyKind applyFrame applyStep freshMachine rxFetch rxStore rxClose rxMarkLast rxMarkFirst rxFinish rxStep ready numberFor releasedEarly
+unfolding run goodPtr wordOf inDescriptors ruleOf classOf classAt wordAt putWord word put emptySet has freeAt addFour dropFour freeCount inUse view fitKinds roomFor roomOf touches sop eop owner eoq td packetLength lengthOf offsetOf firstByte flagsFault lengthFault endFault sumFault behind nextFault ownFault fetchFault setBit clearBit putLength marked lastMarked sideOf awaiting anyTorn headFault ackFault teardownFault resetFault zeroFault byClass registerFault headWritten ackWritten written blockFault descFault judgeStep chainOf walkStep walkFrom walkAll firstStep firstsFrom sound takeOne dropOne takeStep takenFrom plan releaseStep releasedFrom releasedAll releasedFlags fitParts unfit soundWorld release judgeHead judgeRegister lastOf isLast judgeAppend judgeLast judgeWord judgeClass judge admitted guestWrite inReception judgeKind kindChange fetch readBurst close markEoq octetsOf clearOwn finish sendStep transmitStep receiveStep tearMark tearStep resetStep stepOf frameOf registerWrite unguardedWrite freshController applyWrite applyKind applyFrame applyStep freshMachine rxFetch rxStore rxClose rxMarkLast rxMarkFirst rxFinish rxStep ready numberFor releasedEarly
 no-empty-queue-idle = record { empty = refl; free = refl; rewritten = refl; busy = refl; standing = refl; refused = refl; accepted = refl }
 
 -- ---- the length in word 2: "the controller has shrunk it"
@@ -93,7 +93,7 @@ pub record LengthNow : Type 0 where
   pub accepted : numberFor (kind 2 2) (runOps (step Receive ∷ []) shrunk) ≡ 0
 
 pub no-length-now : LengthNow
-unfolding run goodPtr wordOf ruleOf classOf classAt wordAt putWord word put emptySet has freeAt addFour dropFour freeCount inUse view fitKinds roomFor roomOf touches sop eop owner eoq td packetLength lengthOf offsetOf firstByte flagsFault lengthFault endFault sumFault behind nextFault ownFault fetchFault setBit clearBit putLength marked lastMarked sideOf awaiting anyTorn headFault ackFault teardownFault resetFault zeroFault byClass registerFault headWritten ackWritten written blockFault descFault judgeStep chainOf walkStep walkFrom walkAll firstStep firstsFrom sound takeOne dropOne takeStep takenFrom plan releaseStep releasedFrom releasedAll releasedFlags fitParts unfit soundWorld release judgeHead judgeRegister lastOf isLast judgeAppend judgeLast judgeWord judgeClass judge admitted guestWrite inReception judgeKind kindChange fetch readBurst close markEoq octetsOf clearOwn finish sendStep transmitStep receiveStep tearMark tearStep resetStep stepOf frameOf registerWrite unguardedWrite freshController applyWrite applyKind applyFrame applyStep freshMachine rxFetch rxStore rxClose rxMarkLast rxMarkFirst rxFinish rxStep ready numberFor shrunk
+unfolding run goodPtr wordOf inDescriptors ruleOf classOf classAt wordAt putWord word put emptySet has freeAt addFour dropFour freeCount inUse view fitKinds roomFor roomOf touches sop eop owner eoq td packetLength lengthOf offsetOf firstByte flagsFault lengthFault endFault sumFault behind nextFault ownFault fetchFault setBit clearBit putLength marked lastMarked sideOf awaiting anyTorn headFault ackFault teardownFault resetFault zeroFault byClass registerFault headWritten ackWritten written blockFault descFault judgeStep chainOf walkStep walkFrom walkAll firstStep firstsFrom sound takeOne dropOne takeStep takenFrom plan releaseStep releasedFrom releasedAll releasedFlags fitParts unfit soundWorld release judgeHead judgeRegister lastOf isLast judgeAppend judgeLast judgeWord judgeClass judge admitted guestWrite inReception judgeKind kindChange fetch readBurst close markEoq octetsOf clearOwn finish sendStep transmitStep receiveStep tearMark tearStep resetStep stepOf frameOf registerWrite unguardedWrite freshController applyWrite applyKind applyFrame applyStep freshMachine rxFetch rxStore rxClose rxMarkLast rxMarkFirst rxFinish rxStep ready numberFor shrunk
 no-length-now = record { now = refl; recorded = refl; missed = refl; met = refl; refused = refl; accepted = refl }
 
 -- ---- a late append: "EOQ releases it"
@@ -118,7 +118,7 @@ pub record LateAppend : Type 0 where
   pub freed : has (apply (kind 1 1) leftBehind .machine .used) 4 ≡ false
 
 pub no-append-always-sent : LateAppend
-unfolding run goodPtr wordOf ruleOf classOf classAt wordAt putWord word put emptySet has freeAt addFour dropFour freeCount inUse view fitKinds roomFor roomOf touches sop eop owner eoq td packetLength lengthOf offsetOf firstByte flagsFault lengthFault endFault sumFault behind nextFault ownFault fetchFault setBit clearBit putLength marked lastMarked sideOf awaiting anyTorn headFault ackFault teardownFault resetFault zeroFault byClass registerFault headWritten ackWritten written blockFault descFault judgeStep chainOf walkStep walkFrom walkAll firstStep firstsFrom sound takeOne dropOne takeStep takenFrom plan releaseStep releasedFrom releasedAll releasedFlags fitParts unfit soundWorld release judgeHead judgeRegister lastOf isLast judgeAppend judgeLast judgeWord judgeClass judge admitted guestWrite inReception judgeKind kindChange fetch readBurst close markEoq octetsOf clearOwn finish sendStep transmitStep receiveStep tearMark tearStep resetStep stepOf frameOf registerWrite unguardedWrite freshController applyWrite applyKind applyFrame applyStep freshMachine rxFetch rxStore rxClose rxMarkLast rxMarkFirst rxFinish rxStep ready numberFor latchedZero leftBehind
+unfolding run goodPtr wordOf inDescriptors ruleOf classOf classAt wordAt putWord word put emptySet has freeAt addFour dropFour freeCount inUse view fitKinds roomFor roomOf touches sop eop owner eoq td packetLength lengthOf offsetOf firstByte flagsFault lengthFault endFault sumFault behind nextFault ownFault fetchFault setBit clearBit putLength marked lastMarked sideOf awaiting anyTorn headFault ackFault teardownFault resetFault zeroFault byClass registerFault headWritten ackWritten written blockFault descFault judgeStep chainOf walkStep walkFrom walkAll firstStep firstsFrom sound takeOne dropOne takeStep takenFrom plan releaseStep releasedFrom releasedAll releasedFlags fitParts unfit soundWorld release judgeHead judgeRegister lastOf isLast judgeAppend judgeLast judgeWord judgeClass judge admitted guestWrite inReception judgeKind kindChange fetch readBurst close markEoq octetsOf clearOwn finish sendStep transmitStep receiveStep tearMark tearStep resetStep stepOf frameOf registerWrite unguardedWrite freshController applyWrite applyKind applyFrame applyStep freshMachine rxFetch rxStore rxClose rxMarkLast rxMarkFirst rxFinish rxStep ready numberFor latchedZero leftBehind
 no-append-always-sent = record { appended = refl; idle = refl; hdp = refl; sent = refl; unsent = refl; held = refl; freed = refl }
 
 -- ---- the code of a teardown: the one before may have left it
@@ -154,5 +154,5 @@ pub record OldCode : Type 0 where
   pub done : cpOf (runOps (times 3 (step TearTransmit)) tearing .ctl .regs) 0 ≡ 0xFFFF_FFFC
 
 pub no-old-teardown-code : OldCode
-unfolding run goodPtr wordOf ruleOf classOf classAt wordAt putWord word put emptySet has freeAt addFour dropFour freeCount inUse view fitKinds roomFor roomOf touches sop eop owner eoq td packetLength lengthOf offsetOf firstByte flagsFault lengthFault endFault sumFault behind nextFault ownFault fetchFault setBit clearBit putLength marked lastMarked sideOf awaiting anyTorn headFault ackFault teardownFault resetFault zeroFault byClass registerFault headWritten ackWritten written blockFault descFault judgeStep chainOf walkStep walkFrom walkAll firstStep firstsFrom sound takeOne dropOne takeStep takenFrom plan releaseStep releasedFrom releasedAll releasedFlags fitParts unfit soundWorld release judgeHead judgeRegister lastOf isLast judgeAppend judgeLast judgeWord judgeClass judge admitted guestWrite inReception judgeKind kindChange fetch readBurst close markEoq octetsOf clearOwn finish sendStep transmitStep receiveStep tearMark tearStep resetStep stepOf frameOf registerWrite unguardedWrite freshController applyWrite applyKind applyFrame applyStep freshMachine rxFetch rxStore rxClose rxMarkLast rxMarkFirst rxFinish rxStep ready numberFor codeLeft tearing
+unfolding run goodPtr wordOf inDescriptors ruleOf classOf classAt wordAt putWord word put emptySet has freeAt addFour dropFour freeCount inUse view fitKinds roomFor roomOf touches sop eop owner eoq td packetLength lengthOf offsetOf firstByte flagsFault lengthFault endFault sumFault behind nextFault ownFault fetchFault setBit clearBit putLength marked lastMarked sideOf awaiting anyTorn headFault ackFault teardownFault resetFault zeroFault byClass registerFault headWritten ackWritten written blockFault descFault judgeStep chainOf walkStep walkFrom walkAll firstStep firstsFrom sound takeOne dropOne takeStep takenFrom plan releaseStep releasedFrom releasedAll releasedFlags fitParts unfit soundWorld release judgeHead judgeRegister lastOf isLast judgeAppend judgeLast judgeWord judgeClass judge admitted guestWrite inReception judgeKind kindChange fetch readBurst close markEoq octetsOf clearOwn finish sendStep transmitStep receiveStep tearMark tearStep resetStep stepOf frameOf registerWrite unguardedWrite freshController applyWrite applyKind applyFrame applyStep freshMachine rxFetch rxStore rxClose rxMarkLast rxMarkFirst rxFinish rxStep ready numberFor codeLeft tearing
 no-old-teardown-code = record { code = refl; busy = refl; standing = refl; believed = refl; refused = refl; acknowledged = refl; pendingBook = refl; pendingModel = refl; done = refl }

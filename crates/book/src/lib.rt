@@ -4,6 +4,7 @@
 // definitions in specs/; descriptors are taken and dropped one at a time, and no walk grows the stack with the chain.
 // Document 01, "The book and the release".
 use layout::Side;
+use layout::word_number;
 use registers::Flags;
 use registers::Regs;
 ghost use mathlib.Core.Path.{_≡_};
@@ -12,7 +13,6 @@ ghost use Prim.Native.Nat.{_≤_, _<_};
 ghost use lib.ListN.{length, getD};
 ghost use lib.Dec.{eqb};
 ghost use Rattle.layout.specs.Choice.{pick, both};
-ghost use Rattle.layout.specs.Layout.{goodPtr, wordOf};
 ghost use Rattle.words.specs.Word.{word};
 ghost use Rattle.words.specs.WordSet.{view};
 ghost use Rattle.registers.specs.Pending.{tornDown};
@@ -52,14 +52,6 @@ enum Turn {
 enum Hop {
     Stop,
     Go(u32),
-}
-
-// The number of the word that a good pointer names.
-fn word_number(p: u32) -> usize
-    requires { ⌜ goodPtr p ≡ true ⌝ }
-    ensures { λ r. ⌜ (r ≡ wordOf p) × (r ≤ 2044) ⌝ }
-{
-    ((p - layout::DESC_FIRST) / 4) as usize
 }
 
 // The chain walk at p: its descriptor's words are met. A pointer that names none, or one met before, ends the walk.

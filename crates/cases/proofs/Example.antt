@@ -3,7 +3,7 @@ use Prim.Native.Nat.{ℕ}
 use mathlib.Core.Path.{_≡_, refl}
 use mathlib.Core.List.{List, [], _∷_}
 use Rattle.layout.specs.Run.{run}
-use Rattle.layout.specs.Layout.{goodPtr, wordOf}
+use Rattle.layout.specs.Layout.{goodPtr, wordOf, inDescriptors}
 use Rattle.layout.specs.Class.{ruleOf, classOf, classAt}
 use Rattle.words.specs.Word.{wordAt, putWord, word, put}
 use Rattle.words.specs.WordSet.{emptySet, has, freeAt, addFour, dropFour, freeCount, inUse, view}
@@ -37,5 +37,5 @@ abbrev pub exampleOut : List ℕ
 exampleOut = 87 ∷ 32 ∷ 52 ∷ 65 ∷ 49 ∷ 48 ∷ 48 ∷ 65 ∷ 48 ∷ 52 ∷ 32 ∷ 53 ∷ 10 ∷ 75 ∷ 32 ∷ 49 ∷ 32 ∷ 48 ∷ 10 ∷ 115 ∷ 101 ∷ 110 ∷ 116 ∷ 32 ∷ 48 ∷ 32 ∷ 114 ∷ 101 ∷ 99 ∷ 101 ∷ 105 ∷ 118 ∷ 101 ∷ 100 ∷ 32 ∷ 48 ∷ 10 ∷ []
 
 pub example : replay exampleIn ≡ exampleOut
-unfolding run goodPtr wordOf ruleOf classOf classAt wordAt putWord word put emptySet has freeAt addFour dropFour freeCount inUse view fitKinds roomFor roomOf touches sop eop owner eoq td packetLength lengthOf offsetOf firstByte flagsFault lengthFault endFault sumFault behind nextFault ownFault fetchFault setBit clearBit putLength marked lastMarked sideOf awaiting anyTorn headFault ackFault teardownFault resetFault zeroFault byClass registerFault headWritten ackWritten written blockFault descFault judgeStep chainOf walkStep walkFrom walkAll firstStep firstsFrom sound takeOne dropOne takeStep takenFrom plan releaseStep releasedFrom releasedAll releasedFlags fitParts unfit soundWorld release judgeHead judgeRegister lastOf isLast judgeAppend judgeLast judgeWord judgeClass judge admitted guestWrite inReception judgeKind kindChange fetch readBurst close markEoq octetsOf clearOwn finish sendStep transmitStep receiveStep tearMark tearStep resetStep stepOf frameOf registerWrite unguardedWrite freshController applyWrite applyKind applyFrame applyStep freshMachine decodeRam decodeLater decode decimal hex8 lineOf sentLine badLine engineOf recordOf replay
+unfolding run goodPtr wordOf inDescriptors ruleOf classOf classAt wordAt putWord word put emptySet has freeAt addFour dropFour freeCount inUse view fitKinds roomFor roomOf touches sop eop owner eoq td packetLength lengthOf offsetOf firstByte flagsFault lengthFault endFault sumFault behind nextFault ownFault fetchFault setBit clearBit putLength marked lastMarked sideOf awaiting anyTorn headFault ackFault teardownFault resetFault zeroFault byClass registerFault headWritten ackWritten written blockFault descFault judgeStep chainOf walkStep walkFrom walkAll firstStep firstsFrom sound takeOne dropOne takeStep takenFrom plan releaseStep releasedFrom releasedAll releasedFlags fitParts unfit soundWorld release judgeHead judgeRegister lastOf isLast judgeAppend judgeLast judgeWord judgeClass judge admitted guestWrite inReception judgeKind kindChange fetch readBurst close markEoq octetsOf clearOwn finish sendStep transmitStep receiveStep tearMark tearStep resetStep stepOf frameOf registerWrite unguardedWrite freshController applyWrite applyKind applyFrame applyStep freshMachine decodeRam decodeLater decode decimal hex8 lineOf sentLine badLine engineOf recordOf replay
 example = refl

@@ -8,7 +8,7 @@ use mathlib.Core.List.{List, [], _∷_, _++_}
 use Rattle.layout.specs.Run.{run}
 use lib.Dec.{eqb}
 use mathlib.Core.Bool.{false}
-use Rattle.layout.specs.Layout.{goodPtr, wordOf, addr}
+use Rattle.layout.specs.Layout.{goodPtr, wordOf, inDescriptors, addr}
 use Rattle.layout.specs.Class.{ruleOf, classOf, classAt}
 use Rattle.words.specs.Word.{wordAt, putWord, word, put}
 use Rattle.words.specs.WordSet.{emptySet, has, freeAt, addFour, dropFour, freeCount, inUse, view}
@@ -85,7 +85,7 @@ pub record Starred : Type 0 where
   pub example-kind-0 : numberOf (apply (kind 1 2) (freshMachine (0 ∷ 1 ∷ 2 ∷ 3 ∷ [])) .answer) ≡ 0
 
 pub starred : Starred
-unfolding run goodPtr wordOf ruleOf classOf classAt wordAt putWord word put emptySet has freeAt addFour dropFour freeCount inUse view fitKinds roomFor roomOf touches sop eop owner eoq td packetLength lengthOf offsetOf firstByte flagsFault lengthFault endFault sumFault behind nextFault ownFault fetchFault setBit clearBit putLength marked lastMarked sideOf awaiting anyTorn headFault ackFault teardownFault resetFault zeroFault byClass registerFault headWritten ackWritten written blockFault descFault judgeStep chainOf walkStep walkFrom walkAll firstStep firstsFrom sound takeOne dropOne takeStep takenFrom plan releaseStep releasedFrom releasedAll releasedFlags fitParts unfit soundWorld release judgeHead judgeRegister lastOf isLast judgeAppend judgeLast judgeWord judgeClass judge admitted guestWrite inReception judgeKind kindChange fetch readBurst close markEoq octetsOf clearOwn finish sendStep transmitStep receiveStep tearMark tearStep resetStep stepOf frameOf registerWrite unguardedWrite freshController applyWrite applyKind applyFrame applyStep freshMachine ready answered rxOne txOne txTwo rxChain sending hdpAfter
+unfolding run goodPtr wordOf inDescriptors ruleOf classOf classAt wordAt putWord word put emptySet has freeAt addFour dropFour freeCount inUse view fitKinds roomFor roomOf touches sop eop owner eoq td packetLength lengthOf offsetOf firstByte flagsFault lengthFault endFault sumFault behind nextFault ownFault fetchFault setBit clearBit putLength marked lastMarked sideOf awaiting anyTorn headFault ackFault teardownFault resetFault zeroFault byClass registerFault headWritten ackWritten written blockFault descFault judgeStep chainOf walkStep walkFrom walkAll firstStep firstsFrom sound takeOne dropOne takeStep takenFrom plan releaseStep releasedFrom releasedAll releasedFlags fitParts unfit soundWorld release judgeHead judgeRegister lastOf isLast judgeAppend judgeLast judgeWord judgeClass judge admitted guestWrite inReception judgeKind kindChange fetch readBurst close markEoq octetsOf clearOwn finish sendStep transmitStep receiveStep tearMark tearStep resetStep stepOf frameOf registerWrite unguardedWrite freshController applyWrite applyKind applyFrame applyStep freshMachine ready answered rxOne txOne txTwo rxChain sending hdpAfter
 starred = record {
   hdp-4A103FF0-0 = refl;
   hdp-4A103FF4-12 = refl;

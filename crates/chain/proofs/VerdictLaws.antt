@@ -16,10 +16,10 @@ use Rattle.layout.specs.declared.Side.{Side}
 use Rattle.chain.specs.declared.Fault.{Fault}
 use Rattle.chain.specs.declared.Verdict.{Verdict}
 use Rattle.chain.specs.declared.Verdict.the-variants.{Good, Bad}
-use Rattle.chain.specs.Chain.{JOut, chainOf, placeOf, said, verdictOf, numberOf}
+use Rattle.chain.specs.Chain.{JOut, chainOf, placeOf, said, verdictOf, verdictNumber}
 
 -- an answer made of a number and of what is told with it
-at-number : (b : Bool) (f : Fault) → eqb (f .number) 0 ≡ b → numberOf (pick b Good (Bad f)) ≡ f .number
+at-number : (b : Bool) (f : Fault) → eqb (f .number) 0 ≡ b → verdictNumber (pick b Good (Bad f)) ≡ f .number
 at-number true f e = sym (eqb-true (f .number) 0 e)
 at-number false f e = refl
 
@@ -35,7 +35,7 @@ module _ (side : Side) (kinds : List ℕ) (w : ℕ → ℕ) (met : List ℕ) (p 
   abbrev chain : JOut
   chain = chainOf kinds w (placeOf side) met p
 
-  pub verdict-number : numberOf (verdictOf side kinds w met p .0) ≡ chain .0
+  pub verdict-number : verdictNumber (verdictOf side kinds w met p .0) ≡ chain .0
   unfolding verdictOf
   verdict-number = at-number (eqb (chain .0) 0) _ refl
 

@@ -6,7 +6,7 @@
 --     chainOf kinds w pl met p         the chain from pointer p: refusal number (0 for none), where it was found, words met
 --     placeOf side                     where a chain of that side begins
 --     verdictOf side kinds w met p     the same as the answer that is given: with 16, the block that bars the buffer
---     numberOf v                       the refusal number of such an answer
+--     verdictNumber v                  the refusal number of such an answer
 -- The place of a fault: for 12 the bad pointer itself, else the descriptor judged.
 -- w is descriptor memory as a function of the word number. Laws: proofs/ChainLaws.antt. Assumes nothing: these are definitions.
 use Prim.Native.Nat.{ℕ, _+_}
@@ -95,6 +95,6 @@ verdictOf side kinds w met p =
     let j = chainOf kinds w (placeOf side) met p in
     (said kinds w side j, j .2)
 
-abbrev pub numberOf : Verdict → ℕ
-numberOf Good = 0
-numberOf (Bad f) = f .number
+abbrev pub verdictNumber : Verdict → ℕ
+verdictNumber Good = 0
+verdictNumber (Bad f) = f .number

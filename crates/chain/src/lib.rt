@@ -9,11 +9,10 @@ use blocks::Room;
 use descriptor::Descriptor;
 use descriptor::Place;
 use layout::Side;
+use layout::word_number;
 ghost use mathlib.Core.Path.{_≡_};
-ghost use mathlib.Core.Bool.{true};
 ghost use Prim.Native.Nat.{_≤_};
 ghost use lib.ListN.{length};
-ghost use Rattle.layout.specs.Layout.{goodPtr, wordOf};
 ghost use Rattle.words.specs.Word.{word};
 ghost use Rattle.words.specs.WordSet.{view};
 ghost use Rattle.blocks.specs.Room.{roomOf};
@@ -62,14 +61,6 @@ fn refused(n: u8, at: u32) -> u64
     ensures { λ r. ⌜ r ≡ packed n at ⌝ }
 {
     n as u64 + LOW_BYTE * at as u64
-}
-
-// The number of the word that a good pointer names.
-fn word_number(at: u32) -> usize
-    requires { ⌜ goodPtr at ≡ true ⌝ }
-    ensures { λ r. ⌜ (r ≡ wordOf at) × (r ≤ 2044) ⌝ }
-{
-    ((at - layout::DESC_FIRST) / 4) as usize
 }
 
 // What the blocks say to a buffer whose length is in order.

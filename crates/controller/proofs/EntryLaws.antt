@@ -2,19 +2,17 @@
 --     entry-unfit, entry-undefined, entry-goes     memory of another size; a record that is undefined; neither
 --     frame-taken                                  a frame that is taken
 --     write-odd, write-word, write-register        an unguarded write that reaches no word, descriptor memory, or a register
---     word-bounds                                  where an address in descriptor memory lies
-use Prim.Native.Nat.{ℕ, _+_, _-_, _/_, _%_, _≤_, _<_}
+use Prim.Native.Nat.{ℕ, _-_, _/_, _%_, _≤_}
 use mathlib.Core.Path.{_≡_, refl, _∙_}
 use mathlib.Core.Logic.{_≢_}
 use mathlib.Core.Bool.{Bool, true, false, not}
 use mathlib.Core.List.{List}
-use lib.Dec.{eqb, leb, ltb}
+use lib.Dec.{eqb}
 use lib.ListN.{length}
-use borrow.Author.Tests.{eq-eqb, ne-eqb, le-leb, ltb-true, ltb-false, not-true}
+use borrow.Author.Tests.{eq-eqb, ne-eqb, le-leb}
 use Rattle.layout.specs.Choice.{pick, both}
-use Rattle.layout.specs.Layout.{descBytes, descFirst, lengthMax}
+use Rattle.layout.specs.Layout.{descBytes, descFirst, lengthMax, inDescriptors}
 use Rattle.layout.specs.Class.{classAt}
-use Rattle.layout.proofs.ChoiceLaws.{both-left, both-right}
 use Rattle.words.specs.Word.{put}
 use Rattle.registers.specs.Pending.{hdpOf}
 use Rattle.controller.specs.declared.Controller.{Controller}
@@ -58,9 +56,6 @@ even x y z h e = rw (eq-eqb _ _ h, e) refl
 other : {n : ℕ} {b : Bool} (x y z : Moved) → n ≡ 0 → b ≡ false → pick (eqb n 0) (pick b x y) z ≡ y
 other x y z h e = rw (eq-eqb _ _ h, e) refl
 
-abbrev inside : ℕ → Bool
-inside a = both (not (ltb a descFirst)) (ltb a (descFirst + descBytes))
-
 module _ (a v : ℕ) (c : Controller) (m : List ℕ) (size : length m ≡ descBytes) (live : c .undefined ≡ false) where
   abbrev stored : Moved
   stored = answer 0 c (put m ((a - descFirst) / 4) v)
@@ -70,16 +65,12 @@ module _ (a v : ℕ) (c : Controller) (m : List ℕ) (size : length m ≡ descBy
 
   pub write-odd : a % 4 ≢ 0 → unguardedWrite a v c m ≡ answer 3 c m
   unfolding unguardedWrite
-  write-odd h = entry-goes c m (pick (eqb (a % 4) 0) (pick (inside a) stored judged) (answer 3 c m)) size live ∙ odd (inside a) stored judged (answer 3 c m) h
+  write-odd h = entry-goes c m (pick (eqb (a % 4) 0) (pick (inDescriptors a) stored judged) (answer 3 c m)) size live ∙ odd (inDescriptors a) stored judged (answer 3 c m) h
 
-  pub write-word : a % 4 ≡ 0 → inside a ≡ true → unguardedWrite a v c m ≡ stored
+  pub write-word : a % 4 ≡ 0 → inDescriptors a ≡ true → unguardedWrite a v c m ≡ stored
   unfolding unguardedWrite
-  write-word h e = entry-goes c m (pick (eqb (a % 4) 0) (pick (inside a) stored judged) (answer 3 c m)) size live ∙ even stored judged (answer 3 c m) h e
+  write-word h e = entry-goes c m (pick (eqb (a % 4) 0) (pick (inDescriptors a) stored judged) (answer 3 c m)) size live ∙ even stored judged (answer 3 c m) h e
 
-  pub write-register : a % 4 ≡ 0 → inside a ≡ false → unguardedWrite a v c m ≡ judged
+  pub write-register : a % 4 ≡ 0 → inDescriptors a ≡ false → unguardedWrite a v c m ≡ judged
   unfolding unguardedWrite
-  write-register h e = entry-goes c m (pick (eqb (a % 4) 0) (pick (inside a) stored judged) (answer 3 c m)) size live ∙ other stored judged (answer 3 c m) h e
-
-pub word-bounds : (a : ℕ) → inside a ≡ true → (descFirst ≤ a) × (a < descFirst + descBytes)
-word-bounds a e =
-    (ltb-false a descFirst (not-true (ltb a descFirst) (both-left (not (ltb a descFirst)) (ltb a (descFirst + descBytes)) e)), ltb-true a (descFirst + descBytes) (both-right (not (ltb a descFirst)) (ltb a (descFirst + descBytes)) e))
+  write-register h e = entry-goes c m (pick (eqb (a % 4) 0) (pick (inDescriptors a) stored judged) (answer 3 c m)) size live ∙ other stored judged (answer 3 c m) h e

@@ -18,7 +18,7 @@ use mathlib.Core.List.{List, [], _∷_}
 use lib.ListN.{length, getD, set}
 use lib.Dec.{eqb, leb, ltb}
 use Rattle.layout.specs.Choice.{pick, both}
-use Rattle.layout.specs.Layout.{descFirst, descBytes, lengthMax, goodPtr, wordOf}
+use Rattle.layout.specs.Layout.{descFirst, descBytes, lengthMax, goodPtr, wordOf, inDescriptors}
 use Rattle.layout.specs.Class.{classAt, hdpClass, unguardedClass}
 use Rattle.words.specs.Word.{put}
 use Rattle.descriptor.specs.Marks.{tdMark, marked}
@@ -294,7 +294,7 @@ unfoldable pub unguardedWrite : ℕ → ℕ → Controller → List ℕ → Move
 unguardedWrite a v c m =
     unlessUndefined c m
     (pick (eqb (a % 4) 0)
-    (pick (both (not (ltb a descFirst)) (ltb a (descFirst + descBytes)))
+    (pick (inDescriptors a)
     (answer 0 c (put m ((a - descFirst) / 4) v))
     (registerWrite (classAt a) v c m))
     (answer 3 c m))

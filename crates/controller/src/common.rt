@@ -1,12 +1,10 @@
 // What both engines ask of numbers.
 
 use layout::ADDRESS_END;
-use layout::DESC_FIRST;
 ghost use mathlib.Core.Path.{_≡_};
-ghost use mathlib.Core.Bool.{true};
-ghost use Prim.Native.Nat.{_+_, _≤_, min};
+ghost use Prim.Native.Nat.{_+_, min};
 ghost use lib.Dec.{ltb};
-ghost use Rattle.layout.specs.Layout.{addressEnd, goodPtr, wordMax, wordOf};
+ghost use Rattle.layout.specs.Layout.{addressEnd, wordMax};
 
 // The most bytes that one burst moves.
 pub const BURST_MAX: u32 = 64;
@@ -28,14 +26,6 @@ pub fn passes_end(a: u32, n: u32) -> bool
     ensures { λ r. ⌜ r ≡ ltb addressEnd (a + n) ⌝ }
 {
     ADDRESS_END < a as u64 + n as u64
-}
-
-// The number of the word that a good pointer names.
-pub fn word_number(p: u32) -> usize
-    requires { ⌜ goodPtr p ≡ true ⌝ }
-    ensures { λ r. ⌜ (r ≡ wordOf p) × (r ≤ 2044) ⌝ }
-{
-    ((p - DESC_FIRST) / 4) as usize
 }
 
 // The sum of the two, which stops at the largest word.

@@ -10,10 +10,10 @@ mod transmit; // transmit.rt: the transmit engine, likewise
 mod writes; // writes.rt: register writes that no guard has judged
 
 use layout::DESC_BYTES;
-use layout::DESC_END;
 use layout::DESC_FIRST;
 use layout::LENGTH_MAX;
 use layout::class_at;
+use layout::is_descriptor;
 use record::SENDING;
 use record::TAKING;
 use record::give;
@@ -285,16 +285,6 @@ pub fn take_frame_by(c: Controller, n: u32) -> Arrived
     answer_frame(set_rx(c, Receiving::Fetch(frame), c.received), 0)
 }
 
-// Whether an address lies in descriptor memory.
-fn is_descriptor_word(a: u32) -> bool
-    ensures { λ r. ⌜ r ≡ both (not (ltb a descFirst)) (ltb a (descFirst + descBytes)) ⌝ }
-{
-    if a < DESC_FIRST {
-        return false;
-    }
-    a < DESC_END
-}
-
 // A guest write that no guard has judged: the controller's own rules decide. An accepted write of the guard's goes through here too.
 pub fn unguarded_write(c: Controller, m: &mut [u8], a: u32, v: u32) -> Stepped
     ensures { λ r. ⌜ outcome r (now (m .exit)) ≡ unguardedWrite a v c (now (m .entry)) ⌝ }
@@ -308,7 +298,7 @@ pub fn unguarded_write(c: Controller, m: &mut [u8], a: u32, v: u32) -> Stepped
     if a % 4 != 0 {
         return give(c, MISALIGNED);
     }
-    if is_descriptor_word(a) {
+    if is_descriptor(a) {
         put_at(m, ((a - DESC_FIRST) / 4) as usize, v);
         return give(c, 0);
     }

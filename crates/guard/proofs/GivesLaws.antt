@@ -5,7 +5,7 @@
 --     release-is, released-gives    the release, from its parts
 --     write-gives, write-1, write-2 a whole guest write
 --     fit-size, fit-unfit, unfit-size, sound-world   1 and 2 as the functions find them
-use Prim.Native.Nat.{ℕ, _+_, _-_, _/_, _%_, _≤_, _<_}
+use Prim.Native.Nat.{ℕ, _+_, _-_, _/_, _%_}
 use mathlib.Core.Path.{_≡_, refl, ap, ap₂, _∙_, sym, subst}
 use mathlib.Core.Bool.{Bool, true, false, not}
 use mathlib.Core.List.{List}
@@ -14,13 +14,13 @@ use native.Mathlib.Nat.{sub-zero}
 use native.Mathlib.Omega.{arith}
 use lib.ListN.{length, getD}
 use lib.Dec.{eqb, ltb}
-use borrow.Author.Tests.{eq-eqb, ne-eqb, eqb-true, ltb-true, ltb-false, not-false}
+use borrow.Author.Tests.{eq-eqb, ne-eqb, eqb-true, not-false}
 use Rattle.layout.specs.Choice.{pick, both}
-use Rattle.layout.specs.Layout.{descFirst, descBytes}
+use Rattle.layout.specs.Layout.{descFirst, descBytes, inDescriptors}
 use Rattle.layout.specs.Class.{classAt}
 use Rattle.layout.specs.declared.Side.{Side}
 use Rattle.layout.specs.declared.Side.the-variants.{Transmit, Receive}
-use Rattle.layout.proofs.ChoiceLaws.{clash, both-left, both-right}
+use Rattle.layout.proofs.ChoiceLaws.{clash, both-left}
 use Rattle.words.specs.Word.{word, put}
 use Rattle.words.specs.WordSet.{has}
 use Rattle.registers.specs.Pending.{sideOf, awaiting}
@@ -42,7 +42,7 @@ use Rattle.guard.specs.Answers.{Outcome, accept, refuse, refusedDone, ac
 use Rattle.guard.specs.Judges.{started, judgeStart, judgeHead, judgeRegister, isLast, judgeAppend, judgeLast, judgeWord, judgeClass, judge}
 use Rattle.book.specs.Sound.{sound}
 use Rattle.guard.specs.Guard.{admitted, guestWrite}
-use Rattle.guard.specs.Rulings.{decided, starting, headRuling, registerRuling, handedOver, appended, Worded, answerTo, appendOutcome, lastOutcome, wordOutcome, inDescriptors}
+use Rattle.guard.specs.Rulings.{decided, starting, headRuling, registerRuling, handedOver, appended, Worded, answerTo, appendOutcome, lastOutcome, wordOutcome}
 
 module _ (m k : List ℕ) (b : Book) (u l : List ℕ) (r : Regs) where
   -- ---- results without the tables
@@ -235,11 +235,11 @@ module _ (m k : List ℕ) (b : Book) (u l : List ℕ) (r : Regs) where
 
 module _ (a v : ℕ) (s : World) (d : Done) (m k u l : List ℕ) where
   pub address-word : (i : ℕ) → i ≡ (a - descFirst) / 4 → a % 4 ≡ 0 → inDescriptors a ≡ true → Gives (judgeWord i v s) d m k u l → Gives (judge a v s) d m k u l
-  unfolding judge inDescriptors
+  unfolding judge
   address-word i e h f g = rw (eq-eqb (a % 4) 0 h, f, ← e) g
 
   pub address-class : (n : ℕ) → n ≡ classAt a → a % 4 ≡ 0 → inDescriptors a ≡ false → Gives (judgeClass n v s) d m k u l → Gives (judge a v s) d m k u l
-  unfolding judge inDescriptors
+  unfolding judge
   address-class n e h f g = rw (eq-eqb (a % 4) 0 h, f, ← e) g
 
   pub released-gives : (t : World) → release s ≡ t → Gives (judge a v t) d m k u l → Gives (judge a v (release s)) d m k u l
@@ -248,17 +248,6 @@ module _ (a v : ℕ) (s : World) (d : Done) (m k u l : List ℕ) where
   pub write-gives : unfit s ≡ false → soundWorld s ≡ true → Gives (judge a v (release s)) d m k u l → Gives (guestWrite a v s) d m k u l
   unfolding guestWrite admitted
   write-gives e f g = rw (e, f) g
-
-pub inDescriptors-bounds : (a : ℕ) → inDescriptors a ≡ true → (descFirst ≤ a) × (a < descFirst + descBytes)
-unfolding inDescriptors
-inDescriptors-bounds a e =
-    let x = both-left (not (ltb a descFirst)) (ltb a (descFirst + descBytes)) e in
-    let y = both-right (not (ltb a descFirst)) (ltb a (descFirst + descBytes)) e in
-    (ltb-false a descFirst (not-yes (ltb a descFirst) x), ltb-true a (descFirst + descBytes) y)
-  where
-    not-yes : (t : Bool) → not t ≡ true → t ≡ false
-    not-yes true q = clash q refl
-    not-yes false q = refl
 
 pub fit-size : (m k : List ℕ) → fitParts m k ≡ true → length m ≡ 8192
 unfolding fitParts

@@ -17,12 +17,11 @@ use Rattle.layout.proofs.ChoiceLaws.{clash}
 use borrow.Author.Tests.{eq-eqb, ne-eqb}
 use Rattle.words.specs.Word.{word, put}
 use Rattle.words.specs.WordSet.{has}
-use Rattle.chain.specs.Chain.{JOut, placeOf, chainOf, said, verdictOf}
+use Rattle.chain.specs.Chain.{JOut, placeOf, chainOf, said, verdictOf, verdictNumber}
 use Rattle.chain.specs.declared.Fault.{Fault}
 use Rattle.chain.specs.declared.Verdict.{Verdict}
 use Rattle.chain.specs.declared.Verdict.the-variants.{Good, Bad}
 use Rattle.book.specs.HandOver.{Uses, takenFrom}
-use Rattle.guard.specs.Answers.{verdictNumber}
 use Rattle.guard.specs.declared.Answer.{Answer}
 use Rattle.guard.specs.declared.Answer.the-variants.{Accepted, Refused}
 use Rattle.guard.specs.declared.Effect.the-variants.{Plain, Appended}

@@ -5,7 +5,6 @@
 --     effectOf a            0 none, 1 plain, 2 started, 3 appended
 --     sideNumber a          0 none, 1 transmit, 2 receive
 --     Outcome, accept, refuse   an answer and the whole world afterwards
---     verdictNumber c       the number of a chain's verdict
 --     refusedDone, acceptedDone, ruled   a result without the tables
 --     worldAt               a world from what a guard call is handed
 --     Gives o r m k u l     a call's result and the tables it leaves are those of the outcome o: the promise of every entry
@@ -19,8 +18,6 @@ use mathlib.Core.Bool.{Bool, true, false}
 use lib.Dec.{eqb}
 use Rattle.layout.specs.Choice.{pick}
 use Rattle.registers.specs.declared.Regs.{Regs}
-use Rattle.chain.specs.declared.Verdict.{Verdict}
-use Rattle.chain.specs.declared.Verdict.the-variants.{Good, Bad}
 use Rattle.registers.specs.declared.Written.{Written}
 use Rattle.book.specs.declared.Book.{Book}
 use Rattle.book.specs.World.{World}
@@ -65,11 +62,6 @@ refuse n s = record { answer = Refused n; world = s }
 
 abbrev pub accept : Effect → World → Outcome
 accept e s = record { answer = Accepted e; world = s }
-
--- the number of a chain's verdict
-abbrev pub verdictNumber : Verdict → ℕ
-verdictNumber Good = 0
-verdictNumber (Bad f) = f .number
 
 -- the same without the tables: a refusal, an accepted write, and a register judge that found the fault k or wrote x
 abbrev pub refusedDone : ℕ → Book → Regs → Done

@@ -14,7 +14,7 @@ use mathlib.Core.List.{List}
 use lib.ListN.{getD, set}
 use lib.Dec.{eqb, ltb}
 use Rattle.layout.specs.Choice.{pick, both}
-use Rattle.layout.specs.Layout.{descFirst, descBytes, descWords, goodPtr, wordOf, addr}
+use Rattle.layout.specs.Layout.{descFirst, descWords, goodPtr, wordOf, addr, inDescriptors}
 use Rattle.layout.specs.Class.{classAt, hdpClass}
 use Rattle.layout.specs.declared.Side.{Side}
 use Rattle.layout.specs.declared.Side.the-variants.{Transmit, Receive}
@@ -116,5 +116,5 @@ judge a v s =
     let inMemory = judgeWord ((a - descFirst) / 4) v s in
     let register = judgeClass (classAt a) v s in
     pick (eqb (a % 4) 0)
-    (pick (both (not (ltb a descFirst)) (ltb a (descFirst + descBytes))) inMemory register)
+    (pick (inDescriptors a) inMemory register)
     (refuse 3 s)

@@ -4,7 +4,6 @@
 --     headRuling, registerRuling   HDP, and any register, without the tables
 --     handedOver, appended   a chain that is judged and, without fault, taken; and its address stored in word k
 --     kindNumber, kindOutcome      a kind change: 18 to 21, and the kind table
---     inDescriptors a        the address lies in descriptor memory
 --     lastOutcome, wordOutcome     a word of descriptor memory: answer, words in use and lengths, descriptor memory
 -- Assumes nothing: these are definitions.
 use Prim.Native.Nat.{ℕ, _+_}
@@ -13,7 +12,6 @@ use mathlib.Core.List.{List}
 use lib.ListN.{length, getD, set}
 use lib.Dec.{eqb, leb, ltb}
 use Rattle.layout.specs.Choice.{pick, both}
-use Rattle.layout.specs.Layout.{descFirst, descBytes}
 use Rattle.layout.specs.declared.Side.{Side}
 use Rattle.layout.specs.declared.Side.the-variants.{Transmit, Receive}
 use Rattle.words.specs.Word.{word, put}
@@ -92,10 +90,6 @@ wordOutcome k v kinds m t r u =
     pick (has (u .0) k)
     (pick (both (eqb (word m k) 0) (not (eqb v 0))) last (Refused 11, u, m))
     (Accepted Plain, u, put m k v)
-
--- "Descriptor memory is 8,192 bytes at 0x4A102000 to 0x4A103FFF"
-unfoldable pub inDescriptors : ℕ → Bool
-inDescriptors a = both (not (ltb a descFirst)) (ltb a (descFirst + descBytes))
 
 -- 18 to 21 of the change of one block, and the kind table after it
 unfoldable pub kindNumber : ℕ → ℕ → (ℕ → ℕ) → List ℕ → List ℕ → ℕ

@@ -13,7 +13,6 @@ use chain::Verdict;
 use chain::check_chain;
 use layout::CONTROL;
 use layout::CP;
-use layout::DESC_END;
 use layout::DESC_FIRST;
 use layout::HDP;
 use layout::PASSED;
@@ -23,7 +22,9 @@ use layout::TEARDOWN;
 use layout::UNGUARDED;
 use layout::UNOFFERED;
 use layout::class_at;
+use layout::is_descriptor;
 use layout::is_good;
+use layout::word_number;
 use registers::Flags;
 use registers::Regs;
 use registers::Written;
@@ -46,15 +47,16 @@ ghost use mathlib.Core.Bool.{true, false};
 ghost use mathlib.Core.List.{List, [], _∷_};
 ghost use Prim.Native.Nat.{ℕ, _+_, _-_, _/_, _≤_, _<_};
 ghost use lib.ListN.{length};
-ghost use Rattle.layout.specs.Layout.{goodPtr, wordOf};
+ghost use Rattle.layout.specs.Layout.{goodPtr};
 ghost use Rattle.words.specs.Word.{word};
 ghost use Rattle.blocks.specs.Room.{touches};
+ghost use Rattle.chain.specs.Chain.{verdictNumber};
 ghost use Rattle.registers.specs.Pending.{sideOf};
 ghost use Rattle.registers.specs.Rules.{ackFault, ackWritten, teardownFault, teardownWritten, resetFault, resetWritten, zeroFault};
 ghost use Rattle.book.specs.World.{fitParts, unfit, soundWorld, release};
-ghost use Rattle.guard.specs.Answers.{verdictNumber, worldAt, Gives, numberOf, effectOf, numberOfSide, sideNumber, refusedDone, acceptedDone, ruled};
+ghost use Rattle.guard.specs.Answers.{worldAt, Gives, numberOf, effectOf, numberOfSide, sideNumber, refusedDone, acceptedDone, ruled};
 ghost use Rattle.guard.specs.Judges.{lastOf, isLast, judgeWord, judgeClass, judge};
-ghost use Rattle.guard.specs.Rulings.{answerTo, decided, starting, headRuling, registerRuling, handedOver, appended, lastOutcome, wordOutcome, inDescriptors, kindNumber, kindOutcome};
+ghost use Rattle.guard.specs.Rulings.{answerTo, decided, starting, headRuling, registerRuling, handedOver, appended, lastOutcome, wordOutcome, kindNumber, kindOutcome};
 ghost use Rattle.guard.specs.Guard.{guestWrite, inReception, judgeKind, kindChange};
 
 const HDP_LAST: u8 = HDP + 1;
@@ -150,14 +152,6 @@ fn side_of(q: usize) -> Side
         return Side::Transmit;
     }
     Side::Receive
-}
-
-// The number of the word at a good pointer.
-fn word_number(p: u32) -> usize
-    requires { ⌜ goodPtr p ≡ true ⌝ }
-    ensures { λ r. ⌜ (r ≡ wordOf p) × (r ≤ 2044) ⌝ }
-{
-    ((p - DESC_FIRST) / 4) as usize
 }
 
 // A refusal: nothing but the release has happened.
@@ -521,16 +515,6 @@ fn judge_memory(
         book: b,
         regs: r,
     }
-}
-
-// Whether an address lies in descriptor memory.
-fn is_descriptor(a: u32) -> bool
-    ensures { λ r. ⌜ r ≡ inDescriptors a ⌝ }
-{
-    if a < DESC_FIRST {
-        return false;
-    }
-    a < DESC_END
 }
 
 // Any address, on a released world.

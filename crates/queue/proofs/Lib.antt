@@ -11,3 +11,5 @@ pub mod LastLaws
 pub mod GrowLaws
 pub mod TwoLaws
 pub mod RoomyLaws
+pub mod ChangeLaws
+pub mod CallLaws

@@ -20,7 +20,7 @@ use lib.ListN.{length}
 use lib.Dec.{eqb, ltb}
 use borrow.Author.Tests.{eq-eqb, eqb-true, eqb-false, ltb-true}
 use Rattle.layout.specs.Choice.{pick, both}
-use Rattle.layout.specs.Layout.{descFirst, descBytes}
+use Rattle.layout.specs.Layout.{descFirst, descBytes, inDescriptors}
 use Rattle.layout.specs.Class.{classAt, hdpClass}
 use Rattle.layout.specs.declared.Side.{Side}
 use Rattle.layout.specs.declared.Side.the-variants.{Transmit, Receive}
@@ -54,15 +54,12 @@ pub record Carried (x : Moved) (t : World) : Type 0 where
 
 -- ---- where a write goes
 
-abbrev pub inMemory : ℕ → Bool
-inMemory a = both (not (ltb a descFirst)) (ltb a (descFirst + descBytes))
-
 module _ (a v : ℕ) (c : Controller) (m : List ℕ) (size : length m ≡ descBytes) (defined : c .undefined ≡ false) (whole : eqb (a % 4) 0 ≡ true) where
-  pub write-memory : inMemory a ≡ true → unguardedWrite a v c m ≡ answer 0 c (put m ((a - descFirst) / 4) v)
+  pub write-memory : inDescriptors a ≡ true → unguardedWrite a v c m ≡ answer 0 c (put m ((a - descFirst) / 4) v)
   unfolding unguardedWrite
   write-memory e = simp (eq-eqb (length m) descBytes size, defined, whole, e)
 
-  pub write-register : inMemory a ≡ false → unguardedWrite a v c m ≡ registerWrite (classAt a) v c m
+  pub write-register : inDescriptors a ≡ false → unguardedWrite a v c m ≡ registerWrite (classAt a) v c m
   unfolding unguardedWrite
   write-register e = simp (eq-eqb (length m) descBytes size, defined, whole, e)
 
@@ -184,7 +181,7 @@ allowed a v s c g size z = at (eqb (a % 4) 0) refl z
     k : ℕ
     k = (a - descFirst) / 4
 
-    inside : (o : Outcome) → Stored k v s o → eqb (a % 4) 0 ≡ true → inMemory a ≡ true → numberOf (o .answer) ≡ 0
+    inside : (o : Outcome) → Stored k v s o → eqb (a % 4) 0 ≡ true → inDescriptors a ≡ true → numberOf (o .answer) ≡ 0
         → Carried (unguardedWrite a v c (o .world .mem)) (o .world)
     inside o w whole there e =
         let long : length (o .world .mem) ≡ descBytes = ap length (w .mem e) ∙ length-put (s .mem) k v ∙ size in
@@ -192,25 +189,25 @@ allowed a v s c g size z = at (eqb (a % 4) 0) refl z
         (record { number = refl; mem = ap (λ (m : List ℕ). put m k v) (w .mem e) ∙ put-put-same (s .mem) k v v ∙ sym (w .mem e); regs = sym (g .regs) ∙ sym (w .regs e); flags = sym (g .flags) ∙ sym (w .flags e) })
 
     outside : (o : Outcome) → Ruled (registerFault (s .book .flags) (s .regs) (classAt a) v) (written (s .book .flags) (s .regs) (classAt a) v) s o
-        → eqb (a % 4) 0 ≡ true → inMemory a ≡ false → numberOf (o .answer) ≡ 0 → Carried (unguardedWrite a v c (o .world .mem)) (o .world)
+        → eqb (a % 4) 0 ≡ true → inDescriptors a ≡ false → numberOf (o .answer) ≡ 0 → Carried (unguardedWrite a v c (o .world .mem)) (o .world)
     outside o w whole there e =
         let long : length (o .world .mem) ≡ descBytes = ap length (w .mem e) ∙ size in
         rw (write-register a v c (o .world .mem) long (g .defined) whole there)
         (registerWrite-carried (classAt a) v c (o .world .mem) (o .world) (rw (g .flags, g .regs) at (w .fault e)) refl (rw (g .flags, g .regs) at (sym (w .regs e))) (rw (g .flags, g .regs) at (sym (w .flags e))))
 
-    held : (t : Bool) → inMemory a ≡ t → eqb (a % 4) 0 ≡ true → numberOf (pick t (judgeWord k v s) (judgeClass (classAt a) v s) .answer) ≡ 0
+    held : (t : Bool) → inDescriptors a ≡ t → eqb (a % 4) 0 ≡ true → numberOf (pick t (judgeWord k v s) (judgeClass (classAt a) v s) .answer) ≡ 0
         → Carried (unguardedWrite a v c (pick t (judgeWord k v s) (judgeClass (classAt a) v s) .world .mem)) (pick t (judgeWord k v s) (judgeClass (classAt a) v s) .world)
     held true there whole e = inside (judgeWord k v s) (word-stored k v s) whole there e
     held false there whole e = outside (judgeClass (classAt a) v s) (class-ruled (classAt a) v s) whole there e
 
-    at : (t : Bool) → eqb (a % 4) 0 ≡ t → numberOf (pick t (pick (inMemory a) (judgeWord k v s) (judgeClass (classAt a) v s)) (refuse 3 s) .answer) ≡ 0
-        → Carried (unguardedWrite a v c (pick t (pick (inMemory a) (judgeWord k v s) (judgeClass (classAt a) v s)) (refuse 3 s) .world .mem)) (pick t (pick (inMemory a) (judgeWord k v s) (judgeClass (classAt a) v s)) (refuse 3 s) .world)
-    at true whole e = held (inMemory a) refl whole e
+    at : (t : Bool) → eqb (a % 4) 0 ≡ t → numberOf (pick t (pick (inDescriptors a) (judgeWord k v s) (judgeClass (classAt a) v s)) (refuse 3 s) .answer) ≡ 0
+        → Carried (unguardedWrite a v c (pick t (pick (inDescriptors a) (judgeWord k v s) (judgeClass (classAt a) v s)) (refuse 3 s) .world .mem)) (pick t (pick (inDescriptors a) (judgeWord k v s) (judgeClass (classAt a) v s)) (refuse 3 s) .world)
+    at true whole e = held (inDescriptors a) refl whole e
     at false whole e = absurd (omega arith)
 
 pub judge-kinds : (a v : ℕ) (s : World) → judge a v s .world .kinds ≡ s .kinds
 unfolding judge
 judge-kinds a v s =
     pick-holds (λ (o : Outcome). o .world .kinds ≡ s .kinds) (eqb (a % 4) 0) _ _
-    (pick-holds (λ (o : Outcome). o .world .kinds ≡ s .kinds) (inMemory a) _ _ (word-stored ((a - descFirst) / 4) v s .kinds) (class-ruled (classAt a) v s .kinds))
+    (pick-holds (λ (o : Outcome). o .world .kinds ≡ s .kinds) (inDescriptors a) _ _ (word-stored ((a - descFirst) / 4) v s .kinds) (class-ruled (classAt a) v s .kinds))
     refl

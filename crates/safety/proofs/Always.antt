@@ -13,6 +13,7 @@ use native.Mathlib.Omega.{arith}
 use lib.ListN.{set}
 use lib.Dec.{eqb}
 use borrow.Author.Tests.{eqb-true, eqb-false}
+use Rattle.layout.specs.Layout.{inDescriptors}
 use Rattle.layout.specs.Class.{classAt}
 use Rattle.registers.specs.Rules.{headFault}
 use Rattle.book.specs.World.{World, headOf, unfit, soundWorld}
@@ -27,7 +28,6 @@ use Rattle.safety.proofs.Machines.{Kept, inv-defined, frame-kept, step-
 use Rattle.safety.proofs.Calm.{settle, released, release-is, release-calm, Calm, calm-inv}
 use Rattle.safety.proofs.Twice.{never-unfit, never-unsound}
 use Rattle.safety.proofs.Refusals.{Verdict, judge-verdict, kind-verdict}
-use Rattle.safety.proofs.Allowed.{inMemory}
 use Rattle.safety.proofs.Writes.{Fair, calmWorld, Passes, passes-refuse, passes-pick, fair-refused, word-passes}
 use Rattle.safety.proofs.Starts.{transmit-starts, receive-starts}
 use Rattle.safety.proofs.RegisterWrites.{awaiting-is, class-passes}
@@ -42,7 +42,7 @@ admitted-is v g act = rw (never-unfit v g, never-unsound v g) (ap act (release-i
 -- ---- a write
 
 -- a start of either queue
-start-passes : (a x : ℕ) (u : View) → Calm u → eqb (a % 4) 0 ≡ true → inMemory a ≡ false → classAt a < 2 → waiting (u .common) ≡ false
+start-passes : (a x : ℕ) (u : View) → Calm u → eqb (a % 4) 0 ≡ true → inDescriptors a ≡ false → classAt a < 2 → waiting (u .common) ≡ false
     → headFault (flagsOf u) (regsOf u) (classAt a) x ≡ 0 → headOf (calmWorld u) (classAt a) ≡ 0 → Passes a x u (judgeStart (classAt a) x (calmWorld u))
 start-passes a x u c whole away h w z e = at (eqb (classAt a) 0) refl
   where
@@ -57,7 +57,7 @@ judge-passes : (a x : ℕ) → x < 2 ^ 32 → (u : View) → Calm u → Passes a
 unfolding judge
 judge-passes a x b u c =
     passes-pick a x u (eqb (a % 4) 0) _ _
-    (λ whole. passes-pick a x u (inMemory a) _ _ (λ there. word-passes a x b u c whole there)
+    (λ whole. passes-pick a x u (inDescriptors a) _ _ (λ there. word-passes a x b u c whole there)
     (λ away. class-passes a x u c whole away (start-passes a x u c whole away)))
     (λ e. passes-refuse a x u 3 (calmWorld u) (omega arith))
 

@@ -20,7 +20,7 @@ use lib.Dec.{eqb, ltb, leb}
 use borrow.Author.Tests.{eqb-false, leb-true}
 use Rattle.layout.specs.Choice.{pick, both, orElse}
 use Rattle.layout.specs.Run.{Next, go, stop, after, runFor, run}
-use Rattle.layout.specs.Layout.{descFirst, descBytes, addressEnd, goodPtr, wordOf}
+use Rattle.layout.specs.Layout.{descFirst, addressEnd, goodPtr, wordOf, inDescriptors}
 use Rattle.layout.specs.Class.{classAt, hdpClass, cpClass, teardownClass, resetClass, passedClass, unofferedClass, unguardedClass}
 use Rattle.layout.specs.declared.Side.{Side}
 use Rattle.layout.specs.declared.Side.the-variants.{Transmit, Receive}
@@ -283,7 +283,7 @@ pub judge-verdict : (a v : ℕ) (s : World) → Verdict s (judge a v s)
 unfolding judge
 judge-verdict a v s =
     verdict-pick s (eqb (a % 4) 0) _ _
-    (verdict-pick s (both (not (ltb a descFirst)) (ltb a (descFirst + descBytes))) _ _ (word-verdict ((a - descFirst) / 4) v s) (class-verdict (classAt a) v s))
+    (verdict-pick s (inDescriptors a) _ _ (word-verdict ((a - descFirst) / 4) v s) (class-verdict (classAt a) v s))
     (refused s 3 refl refl)
 
 pub kind-verdict : (bs : List ℕ) (k : ℕ) (s : World) → Verdict s (judgeKind bs k s)

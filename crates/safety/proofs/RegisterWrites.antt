@@ -16,6 +16,7 @@ use native.Mathlib.Nat.{sub-zero}
 use native.Mathlib.Omega.{arith}
 use lib.Dec.{eqb, ltb}
 use borrow.Author.Tests.{le-ltb, ltb-true, ltb-false, eqb-true}
+use Rattle.layout.specs.Layout.{inDescriptors}
 use Rattle.layout.specs.Choice.{both}
 use Rattle.layout.specs.Class.{classAt, hdpClass}
 use Rattle.registers.specs.declared.Written.{Written}
@@ -29,7 +30,7 @@ use Rattle.controller.specs.declared.Controller.{Controller}
 use Rattle.controller.specs.Controller.{answer, setRegs, setFlags, startsEngine, registerWrite, unguardedWrite}
 use Rattle.safety.proofs.View.{View, ctlOf, regsOf, flagsOf, waiting}
 use Rattle.safety.proofs.Calm.{settle, Calm}
-use Rattle.safety.proofs.Allowed.{inMemory, write-register, head-fault, head-written}
+use Rattle.safety.proofs.Allowed.{write-register, head-fault, head-written}
 use Rattle.safety.proofs.Registers.{register-inv, zeroes-inv}
 use Rattle.safety.proofs.Writes.{calmWorld, Passes, passes-refuse, passes-pick, passes-fault, passes-accept}
 
@@ -62,7 +63,7 @@ awaiting-is u = refl
 abbrev pub wroteTo : Written → View → World
 wroteTo w u = setWorldRegs (w .regs) (setWorldFlags (w .flags) (calmWorld u))
 
-module _ (a v : ℕ) (u : View) (c : Calm u) (whole : eqb (a % 4) 0 ≡ true) (away : inMemory a ≡ false) where
+module _ (a v : ℕ) (u : View) (c : Calm u) (whole : eqb (a % 4) 0 ≡ true) (away : inDescriptors a ≡ false) where
   abbrev n : ℕ
   n = classAt a
 

@@ -12,7 +12,7 @@ use mathlib.Core.Logic.{inl}
 use native.Mathlib.Omega.{arith}
 use lib.Dec.{eqb}
 use borrow.Author.Tests.{eqb-true, lt-ltb}
-use Rattle.layout.specs.Layout.{goodPtr}
+use Rattle.layout.specs.Layout.{goodPtr, inDescriptors}
 use Rattle.layout.specs.Class.{classAt, hdpClass}
 use Rattle.layout.specs.declared.Side.the-variants.{Transmit, Receive}
 use Rattle.layout.proofs.ChoiceLaws.{clash, want, shun}
@@ -40,7 +40,7 @@ use Rattle.safety.proofs.View.{Post, View, ctlOf, regsOf, flagsOf, wait
 use Rattle.safety.proofs.Frame.{rx-new}
 use Rattle.safety.proofs.Ends.{good-start}
 use Rattle.safety.proofs.Calm.{settle, Duty, Calm, calm-good}
-use Rattle.safety.proofs.Allowed.{inMemory, write-register, head-fault, head-written}
+use Rattle.safety.proofs.Allowed.{write-register, head-fault, head-written}
 use Rattle.safety.proofs.Stores.{judged-sendable, judged-fillable, judged-roomy}
 use Rattle.safety.proofs.Writes.{calmWorld, Passes, passes-fault, passes-accept}
 
@@ -156,7 +156,7 @@ unfolding registerWrite
 start-writes q v c m l s a e =
     rw (head-fault (c .flags) (c .regs) q v l, e, head-written (c .flags) (c .regs) q v l ∙ head-kept (c .flags) (c .regs) q v a, a, lt-ltb q 2 l, s) refl
 
-module _ (a v : ℕ) (u : View) (c : Calm u) (whole : eqb (a % 4) 0 ≡ true) (beside : inMemory a ≡ false) (over : awaiting (flagsOf u) ≡ false) where
+module _ (a v : ℕ) (u : View) (c : Calm u) (whole : eqb (a % 4) 0 ≡ true) (beside : inDescriptors a ≡ false) (over : awaiting (flagsOf u) ≡ false) where
   not-waiting : waiting (u .common) ≡ false
   unfolding awaiting
   not-waiting = over

@@ -14,7 +14,7 @@ use native.Mathlib.Omega.{arith}
 use lib.Dec.{eqb}
 use borrow.Author.Tests.{eq-eqb, ne-eqb}
 use Rattle.layout.specs.Choice.{pick, both}
-use Rattle.layout.specs.Layout.{descFirst}
+use Rattle.layout.specs.Layout.{descFirst, inDescriptors}
 use Rattle.layout.specs.declared.Side.{Side}
 use Rattle.layout.specs.declared.Side.the-variants.{Transmit, Receive}
 use Rattle.words.specs.Word.{put}
@@ -39,7 +39,7 @@ use Rattle.safety.proofs.Touch.{sole-swapped}
 use Rattle.safety.proofs.Grow.{start-more}
 use Rattle.safety.proofs.Calm.{settle, Calm, calm-good, calm-inv}
 use Rattle.safety.proofs.Refusals.{Refusal}
-use Rattle.safety.proofs.Allowed.{inMemory, write-memory, fault-holds}
+use Rattle.safety.proofs.Allowed.{write-memory, fault-holds}
 use Rattle.safety.proofs.Stores.{withStore, grown, not-nil, store-calm, append-transmit, append-receive}
 
 pub record Fair (u : View) (x : Happened) : Type 0 where
@@ -82,7 +82,7 @@ fair-refused a v u c o r =
 
 -- ---- a word of descriptor memory
 
-module _ (a v : ℕ) (small : v < 2 ^ 32) (u : View) (c : Calm u) (whole : eqb (a % 4) 0 ≡ true) (there : inMemory a ≡ true) where
+module _ (a v : ℕ) (small : v < 2 ^ 32) (u : View) (c : Calm u) (whole : eqb (a % 4) 0 ≡ true) (there : inDescriptors a ≡ true) where
   -- the word at that address
   abbrev k : ℕ
   k = (a - descFirst) / 4

@@ -3,7 +3,8 @@ use mathlib.Core.Path.{refl}
 use native.Mathlib.Omega.{arith}
 use borrow.Author.Needs.{needs}
 use Rattle.layout.proofs.ChoiceLaws.{yes-of, no-of}
-use Rattle.guard.proofs.GivesLaws.{judge-3, address-word, address-class, inDescriptors-bounds}
+use Rattle.guard.proofs.GivesLaws.{judge-3, address-word, address-class}
+use Rattle.layout.proofs.PointerLaws.{inDescriptors-bounds}
 use Rattle.guard.proofs.judge_address.Statement.{statement}
 use Rattle.guard.proofs.judge_address.Tie as tie
 
