@@ -2,6 +2,7 @@
 --     met-kept, met-refused      the controller's answer to an accepted write
 --     carry-kept, carry-met      a refused write, and one that went on
 --     write-leaves, kind-leaves  a whole guest write, a whole kind change
+--     frame-moves, step-moves    a frame, a step
 use Prim.Native.Nat.{ℕ}
 use mathlib.Core.Path.{_≡_, refl, ap, _∙_, sym}
 use mathlib.Core.Bool.{Bool, true, false}
@@ -13,16 +14,19 @@ use Rattle.layout.specs.Choice.{pick}
 use Rattle.book.specs.declared.Book.{Book}
 use Rattle.guard.specs.declared.Answer.{Answer}
 use Rattle.guard.specs.declared.Answer.the-variants.{Accepted, Refused}
+use Rattle.guard.specs.declared.Effect.the-variants.{Plain}
 use Rattle.guard.specs.declared.Done.{Done}
 use Rattle.guard.specs.Answers.{Outcome, numberOf, worldAt, Gives}
 use Rattle.guard.specs.Guard.{guestWrite, kindChange}
 use Rattle.controller.specs.declared.Burst.the-variants.{Quiet}
 use Rattle.controller.specs.declared.Controller.{Controller}
+use Rattle.controller.specs.declared.Engine.{Engine}
 use Rattle.controller.specs.declared.Stepped.{Stepped}
-use Rattle.controller.specs.Controller.{Moved, outcome, unguardedWrite}
+use Rattle.controller.specs.declared.Arrived.{Arrived}
+use Rattle.controller.specs.Controller.{Moved, outcome, stepOf, Framed, arrival, frameOf, unguardedWrite}
 use Rattle.machine.specs.declared.After.{After}
-use Rattle.machine.specs.Machine.{Machine, Happened, worldOf, withWorld, withCtl, carriedOut, applyWrite, applyKind}
-use Rattle.machine.specs.After.{machineAt, kept, met, reachedBy, Leaves}
+use Rattle.machine.specs.Machine.{Machine, Happened, worldOf, withWorld, withCtl, carriedOut, answerOf, applyWrite, applyKind, applyFrame, applyStep}
+use Rattle.machine.specs.After.{machineAt, kept, met, reachedBy, Leaves, Moves}
 
 pub met-kept : (c : Controller) (n : ℕ) (b : Book) (a : Answer) (r : After) → n ≡ 0 → r ≡ kept c b a → r ≡ met c n b a
 unfolding met
@@ -113,3 +117,38 @@ module _ (c : Controller) (b : Book) (m k u l : List ℕ) (d : Done) (m1 k1 u1 l
     used = g .used;
     lens = g .lens;
   }
+
+-- ---- the controller alone
+pub frame-moves : (n : ℕ) (c : Controller) (r : Arrived) (a : Answer) → arrival r ≡ frameOf n c → a ≡ answerOf (r .number)
+    → (m : List ℕ) → Moves (applyFrame n) c m (record { ctl = r .ctl; answer = a; burst = Quiet }) m
+unfolding applyFrame
+frame-moves n c r a e i m b k u l = record {
+  answer = i ∙ ap (λ (z : Framed). answerOf (z .number)) e;
+  burst = refl;
+  ctl = ap (λ (z : Framed). z .ctl) e;
+  book = refl;
+  mem = refl;
+  kinds = refl;
+  used = refl;
+  lens = refl;
+}
+
+pub step-moves : (e : Engine) (c : Controller) (m : List ℕ) (r : Stepped) (a : Answer) (m1 : List ℕ) → outcome r m1 ≡ stepOf e c m
+    → a ≡ answerOf (r .number) → Moves (applyStep e) c m (record { ctl = r .ctl; answer = a; burst = r .burst }) m1
+unfolding applyStep
+step-moves e c m r a m1 q i b k u l = record {
+  answer = i ∙ ap (λ (z : Moved). answerOf (z .number)) q;
+  burst = ap (λ (z : Moved). z .burst) q;
+  ctl = ap (λ (z : Moved). z .ctl) q;
+  book = refl;
+  mem = ap (λ (z : Moved). z .mem) q;
+  kinds = refl;
+  used = refl;
+  lens = refl;
+}
+
+pub answer-yes : (n : ℕ) → n ≡ 0 → Accepted Plain ≡ answerOf n
+answer-yes n h = rw (eq-eqb n 0 h) refl
+
+pub answer-no : (n : ℕ) → n ≢ 0 → Refused n ≡ answerOf n
+answer-no n h = rw (ne-eqb n 0 h) refl

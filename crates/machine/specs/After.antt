@@ -2,6 +2,8 @@
 --     machineAt              a machine from what an operation is handed
 --     kept, met, reachedBy   what is handed back where the controller is left alone, has answered, and either of the two
 --     Leaves h r m k u l     an operation's result and the tables it leaves are those of h: the promise of every operation
+--     beside b r             a result of the controller alone, with the book that it left alone
+--     Moves f c m r m′       such a result leaves what f says, whatever book, kinds, words in use and lengths there are
 -- Assumes nothing: these are definitions.
 use Prim.Native.Nat.{ℕ}
 use mathlib.Core.Path.{_≡_}
@@ -16,6 +18,7 @@ use Rattle.controller.specs.declared.Burst.the-variants.{Quiet}
 use Rattle.controller.specs.declared.Controller.{Controller}
 use Rattle.controller.specs.Controller.{unguardedWrite}
 use Rattle.machine.specs.declared.After.{After}
+use Rattle.machine.specs.declared.Moved.{Moved}
 use Rattle.machine.specs.Machine.{Machine, Happened}
 
 abbrev pub machineAt : Controller → Book → List ℕ → List ℕ → List ℕ → List ℕ → Machine
@@ -41,3 +44,9 @@ pub record Leaves (h : Happened) (r : After) (m k u l : List ℕ) : Type 0 where
   pub kinds : k ≡ h .machine .kinds
   pub used : u ≡ h .machine .used
   pub lens : l ≡ h .machine .lens
+
+abbrev pub beside : Book → Moved → After
+beside b r = record { ctl = r .ctl; book = b; answer = r .answer; burst = r .burst }
+
+abbrev pub Moves : (Machine → Happened) → Controller → List ℕ → Moved → List ℕ → Type 0
+Moves f c m r m′ = (b : Book) (k u l : List ℕ) → Leaves (f (machineAt c b m k u l)) (beside b r) m′ k u l

@@ -1,26 +1,40 @@
 // The machine: guard and controller over one descriptor memory, one operation at a time.
-// Promises: a guest write and a kind change leave exactly the controller, the book with its words in use and lengths, the descriptor memory
-// and the kinds that the definitions `applyWrite` and `applyKind` give, with their answer. An accepted write reaches the controller as a
-// write that no guard has judged. Document 01, "Answers by number", "The controller's steps".
+// Promises: a guest write, a kind change, a frame and a step of an engine leave exactly the controller, the book with its words in use and
+// lengths, the descriptor memory and the kinds that the definitions `applyWrite`, `applyKind`, `applyFrame` and `applyStep` give, with their
+// answer and burst. An accepted write reaches the controller as a write that no guard has judged; frames and steps leave the guard's part
+// alone. Document 01, "Answers by number", "The controller's steps".
 
 use book::Book;
 use controller::Burst;
 use controller::Controller;
+use controller::Engine;
 use controller::Stepped;
 use controller::unguarded_write;
 use guard::Answer;
 use guard::Done;
+use guard::Effect;
 use guard::answer_number;
 use guard::guest_write;
 use guard::kind_change;
+use host::hosted;
+use host::hosted_frame;
 ghost use mathlib.Core.Path.{_≡_};
-ghost use Rattle.machine.specs.Machine.{applyWrite, applyKind};
-ghost use Rattle.machine.specs.After.{machineAt, Leaves, kept, met, reachedBy};
+ghost use mathlib.Core.List.{List};
+ghost use Prim.Native.Nat.{ℕ};
+ghost use Rattle.machine.specs.Machine.{answerOf, applyWrite, applyKind, applyFrame, applyStep};
+ghost use Rattle.machine.specs.After.{machineAt, Leaves, Moves, kept, met, reachedBy};
 
 // The controller, heads and flags of the book, the answer and the burst after an operation.
 pub struct After {
     pub ctl: Controller,
     pub book: Book,
+    pub answer: Answer,
+    pub burst: Burst,
+}
+
+// The controller, the answer and the burst after an operation of the controller alone.
+pub struct Moved {
+    pub ctl: Controller,
     pub answer: Answer,
     pub burst: Burst,
 }
@@ -104,4 +118,36 @@ pub fn apply_kind(
 {
     let d = kind_change(block, kind, m, kinds, b, c.regs, used, lens);
     keep(c, d)
+}
+
+// The controller's number as an answer.
+fn answer_of(n: u8) -> Answer
+    ensures { λ r. ⌜ r ≡ answerOf n ⌝ }
+{
+    if n == 0 {
+        return Answer::Accepted(Effect::Plain);
+    }
+    Answer::Refused(n)
+}
+
+// A frame of n bytes comes.
+pub fn apply_frame(n: u32, c: Controller) -> Moved
+    ensures { λ r. ⌜ ((m : List ℕ) → Moves (applyFrame n) c m r m) ⌝ }
+{
+    let x = hosted_frame(c, n);
+    let ctl = x.ctl;
+    let answer = answer_of(x.number);
+    let burst = Burst::Quiet;
+    Moved { ctl, answer, burst }
+}
+
+// One step of an engine.
+pub fn apply_step(e: Engine, c: Controller, m: &mut [u8]) -> Moved
+    ensures { λ r. ⌜ Moves (applyStep e) c (now (m .entry)) r (now (m .exit)) ⌝ }
+{
+    let x = hosted(c, m, e);
+    let ctl = x.ctl;
+    let answer = answer_of(x.number);
+    let burst = x.burst;
+    Moved { ctl, answer, burst }
 }

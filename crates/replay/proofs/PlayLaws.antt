@@ -5,27 +5,19 @@
 --     line-end                    how far a line reaches
 use Prim.Native.Nat.{ℕ, zero, suc, _+_, _-_, _*_, _≤_, _<_}
 use mathlib.Core.Path.{_≡_, refl, ap, _∙_, sym, subst}
-use mathlib.Core.Bool.{Bool, true, false}
 use mathlib.Core.List.{List, [], _∷_, _++_}
 use native.Mathlib.Nat.{add-zero}
 use native.Mathlib.Omega.{arith}
 use lib.ListN.{length}
-use lib.Dec.{eqb}
-use borrow.Author.Tests.{eqb-true}
-use Rattle.layout.specs.Choice.{pick}
 use Rattle.book.specs.declared.Book.{Book}
-use Rattle.guard.specs.declared.Answer.the-variants.{Accepted, Refused}
-use Rattle.guard.specs.declared.Effect.the-variants.{Plain}
 use Rattle.guard.specs.Answers.{numberOf}
 use Rattle.controller.specs.declared.Burst.{Burst}
 use Rattle.controller.specs.declared.Controller.{Controller}
 use Rattle.controller.specs.declared.Engine.{Engine}
-use Rattle.controller.specs.declared.Stepped.{Stepped}
-use Rattle.controller.specs.declared.Arrived.{Arrived}
-use Rattle.controller.specs.Controller.{Moved, outcome, stepOf, Framed, arrival, frameOf}
 use Rattle.machine.specs.declared.After.{After}
-use Rattle.machine.specs.Machine.{Machine, answerOf, step, apply, applyWrite, applyKind, applyFrame, applyStep}
-use Rattle.machine.specs.After.{machineAt, Leaves}
+use Rattle.machine.specs.declared.Moved.{Moved}
+use Rattle.machine.specs.Machine.{Machine, step, apply, applyWrite, applyKind, applyFrame, applyStep}
+use Rattle.machine.specs.After.{machineAt, Leaves, Moves}
 use Rattle.records.specs.declared.Record.{Record}
 use Rattle.records.specs.declared.Record.the-variants.{Ram, Write, Kind, Frame, Steps}
 use Rattle.records.specs.Lines.{Event, wrote, changed, framed, moved, lineOf, linesOf, lineMax, Prints}
@@ -55,13 +47,6 @@ one-line e {x} {y} {i} {j} p = subst (λ (l : List ℕ). Prints x i l y j) (sym 
 pub line-end : {x y : List ℕ} {i j : ℕ} {l : List ℕ} → Prints x i l y j → length l ≤ lineMax → j ≤ i + lineMax
 line-end p h = omega (arith, p .ends, h)
 
-number-at : (t : Bool) (n : ℕ) → eqb n 0 ≡ t → numberOf (pick t (Accepted Plain) (Refused n)) ≡ n
-number-at true n e = sym (eqb-true n 0 e)
-number-at false n e = refl
-
-number-is : (n : ℕ) → numberOf (answerOf n) ≡ n
-number-is n = number-at (eqb n 0) n refl
-
 -- ---- one operation
 module _ (c : Controller) (b : Book) (m k u l : List ℕ) (w : After) (m1 k1 u1 l1 x : List ℕ) (at : ℕ) (y : List ℕ) (n j : ℕ) (i : n ≡ numberOf (w .answer)) where
   pub write-plays : (a v : ℕ) → Leaves (applyWrite a v (machineAt c b m k u l)) w m1 k1 u1 l1 → Prints x at (lineOf (wrote a n)) y j
@@ -90,33 +75,34 @@ module _ (c : Controller) (b : Book) (m k u l : List ℕ) (w : After) (m1 k1 u1 
     text = one-line (changed d _) (subst (λ (z : ℕ). Prints x at (lineOf (changed d z)) y j) (i ∙ ap numberOf (h .answer)) p);
   }
 
-pub frame-goes : (n : ℕ) (c : Controller) (r : Arrived) (x : List ℕ) (at : ℕ) (y : List ℕ) (j : ℕ) → arrival r ≡ frameOf n c
-    → Prints x at (lineOf (framed n (r .number))) y j → (m : List ℕ) → Goes (recordOf (Frame n)) c m (record { ctl = r .ctl; end = j }) m x at y
-unfolding recordOf applyFrame
-frame-goes n c r x at y j e p m b k u l = record {
-  ctl = ap (λ (z : Framed). z .ctl) e;
-  book = refl;
-  mem = refl;
-  kinds = refl;
-  used = refl;
-  lens = refl;
-  text =
-      one-line (framed n _)
-      (subst (λ (z : ℕ). Prints x at (lineOf (framed n z)) y j) (ap (λ (z : Framed). z .number) e ∙ sym (number-is (frameOf n c .number))) p);
-}
+pub frame-goes : (n : ℕ) (c : Controller) (r : Moved) (i : ℕ) (x : List ℕ) (at : ℕ) (y : List ℕ) (j : ℕ) → ((m : List ℕ) → Moves (applyFrame n) c m r m)
+    → i ≡ numberOf (r .answer) → Prints x at (lineOf (framed n i)) y j → (m : List ℕ) → Goes (recordOf (Frame n)) c m (record { ctl = r .ctl; end = j }) m x at y
+unfolding recordOf
+frame-goes n c r i x at y j f e p m b k u l =
+    let h = f m b k u l in
+    record {
+      ctl = h .ctl;
+      book = h .book;
+      mem = h .mem;
+      kinds = h .kinds;
+      used = h .used;
+      lens = h .lens;
+      text = one-line (framed n _) (subst (λ (z : ℕ). Prints x at (lineOf (framed n z)) y j) (e ∙ ap numberOf (h .answer)) p);
+    }
 
-pub step-goes : (e : Engine) (c : Controller) (m : List ℕ) (r : Stepped) (m1 x : List ℕ) (at : ℕ) (y : List ℕ) (j : ℕ) → outcome r m1 ≡ stepOf e c m
+pub step-goes : (e : Engine) (c : Controller) (m : List ℕ) (r : Moved) (m1 x : List ℕ) (at : ℕ) (y : List ℕ) (j : ℕ) → Moves (applyStep e) c m r m1
     → Prints x at (lineOf (moved (r .burst))) y j → Goes (stepsOf e 1) c m (record { ctl = r .ctl; end = j }) m1 x at y
-unfolding applyStep
-step-goes e c m r m1 x at y j q p b k u l = record {
-  ctl = ap (λ (z : Moved). z .ctl) q;
-  book = refl;
-  mem = ap (λ (z : Moved). z .mem) q;
-  kinds = refl;
-  used = refl;
-  lens = refl;
-  text = one-line (moved _) (subst (λ (z : Burst). Prints x at (lineOf (moved z)) y j) (ap (λ (z : Moved). z .burst) q) p);
-}
+step-goes e c m r m1 x at y j f p b k u l =
+    let h = f b k u l in
+    record {
+      ctl = h .ctl;
+      book = h .book;
+      mem = h .mem;
+      kinds = h .kinds;
+      used = h .used;
+      lens = h .lens;
+      text = one-line (moved _) (subst (λ (z : Burst). Prints x at (lineOf (moved z)) y j) (h .burst) p);
+    }
 
 -- ---- steps one after another
 pub goes-none : (e : Engine) (n : ℕ) → n ≡ 0 → (c : Controller) (m x : List ℕ) (at : ℕ) → Goes (stepsOf e n) c m (record { ctl = c; end = at }) m x at x

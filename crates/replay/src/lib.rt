@@ -6,9 +6,9 @@ use book::Book;
 use controller::Controller;
 use controller::Engine;
 use guard::answer_number;
-use host::hosted;
-use host::hosted_frame;
+use machine::apply_frame;
 use machine::apply_kind;
+use machine::apply_step;
 use machine::apply_write;
 use records::Record;
 use records::put_burst;
@@ -63,10 +63,10 @@ fn play_step(e: Engine, c: Controller, m: &mut [u8], out: &mut [u8], at: usize) 
     ensures { λ r. ⌜ r .end ≤ at + lineMax ⌝ }
     ensures { λ r. ⌜ Goes (stepsOf e 1) c (now (m .entry)) r (now (m .exit)) (now (out .entry)) at (now (out .exit)) ⌝ }
 {
-    let s = hosted(c, m, e);
-    let burst = s.burst;
+    let x = apply_step(e, c, m);
+    let burst = x.burst;
     let end = put_burst(out, at, burst);
-    let ctl = s.ctl;
+    let ctl = x.ctl;
     Ran { ctl, end }
 }
 
@@ -143,8 +143,9 @@ pub fn play_frame(n: u16, c: Controller, out: &mut [u8], at: usize) -> Ran
     ensures { λ r. ⌜ r .end ≤ at + lineMax ⌝ }
     ensures { λ r. ⌜ Comes (recordOf (Frame n)) c r (now (out .entry)) at (now (out .exit)) ⌝ }
 {
-    let x = hosted_frame(c, n as u32);
-    let end = put_framed(out, at, n, x.number);
+    let x = apply_frame(n as u32, c);
+    let answer = x.answer;
+    let end = put_framed(out, at, n, answer_number(answer));
     let ctl = x.ctl;
     Ran { ctl, end }
 }

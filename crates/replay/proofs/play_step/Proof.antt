@@ -5,8 +5,8 @@ use Rattle.replay.proofs.PlayLaws.{line-end, step-goes}
 use Rattle.replay.proofs.play_step.Statement.{statement}
 use Rattle.replay.proofs.play_step.Tie as tie
 
-hosted-requires : tie.Need-hosted-requires
-hosted-requires c κs = search needs
+apply-step-requires : tie.Need-apply-step-requires
+apply-step-requires c κs = search needs
 
 put-burst-requires : tie.Need-put-burst-requires
 put-burst-requires c κs = search needs
@@ -18,7 +18,7 @@ same-length-2 : tie.Need-same-length-2
 same-length-2 c = search needs
 
 returns : tie.Need-returns
-returns c = (line-end (c .before .before .before .put-burst .ensures) (length-lineOf _), step-goes _ _ _ _ _ _ _ _ _ (c .before .before .before .before .before .before .before .hosted .ensures) (c .before .before .before .put-burst .ensures))
+returns c = (line-end (c .before .before .before .put-burst .ensures) (length-lineOf _), step-goes _ _ _ _ _ _ _ _ _ (c .before .before .before .before .before .before .before .apply-step .ensures) (c .before .before .before .put-burst .ensures))
 
 pub play-step-spec : {M : Type 1} → statement M
-play-step-spec = tie.close (tie.spec hosted-requires put-burst-requires same-length same-length-2 returns)
+play-step-spec = tie.close (tie.spec apply-step-requires put-burst-requires same-length same-length-2 returns)
