@@ -94,7 +94,7 @@ enum gresomund_number {
   GRESOMUND_IN_RECEPTION = 21    /* kind change: a receive buffer in the book touches the block */
 };
 
-/* What an accepted call did. */
+/* What an accepted call did. An accepted kind change is plain. */
 enum gresomund_effect { GRESOMUND_NONE = 0, GRESOMUND_PLAIN = 1, GRESOMUND_STARTED = 2, GRESOMUND_APPENDED = 3 };
 
 /* On which side it started or appended; 0 for anything else. */

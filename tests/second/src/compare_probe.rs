@@ -28,6 +28,7 @@ pub fn wanted() -> Vec<String> {
             keys.push(format!("{mark} {n:02}"));
         }
     };
+    numbers("answer", &(0..=24).collect::<Vec<u8>>());
     numbers("guest write", &(0..=17).collect::<Vec<u8>>());
     numbers("kind change", &[0, 1, 2, 18, 19, 20, 21]);
     numbers("frame", &[0, 22, 23, 24]);
@@ -79,6 +80,7 @@ pub fn wanted() -> Vec<String> {
 
 fn count(tally: &mut Tally, case: &Case, outcome: &Outcome) {
     let call = call_taken(case.call);
+    tally.add(&format!("answer {:02}", outcome.number));
     tally.add(&format!("{} {:02}", call_name(call), outcome.number));
     if call == probe::GUEST_WRITE && outcome.number > 2
         || outcome.effect != crate::guard::Effect::None

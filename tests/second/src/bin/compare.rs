@@ -5,7 +5,7 @@
 //!   compare bench     --bench PATH [--files N] [--seed S]
 //!   compare probe     --probe PATH [--cases N] [--seed S]
 //!   compare traces    --bench PATH FILE..
-//!   compare fuzz      --bench PATH --probe PATH --seconds S [--seed S]
+//!   compare fuzz      --bench PATH [--probe PATH] --seconds S [--seed S]
 //!   compare sequences [--runs N] [--seed S] [--seconds S]
 //!   compare broken
 
@@ -230,29 +230,32 @@ fn run_traces(arguments: &Arguments) -> Result<Score, String> {
     Ok(score)
 }
 
+/// New seeds until the time is over or something differs. What never occurred is no
+/// failure here: one seed makes too few for that.
 fn run_fuzz(arguments: &Arguments) -> Result<Score, String> {
     let bench = arguments.program("bench")?;
-    let probe = arguments.program("probe")?;
+    let probe = match arguments.flags.contains_key("probe") {
+        true => Some(arguments.program("probe")?),
+        false => None,
+    };
     let seconds = arguments.number("seconds", 60)?;
     let clock = std::time::SystemTime::now().duration_since(std::time::UNIX_EPOCH);
     let by_clock = clock.map_or(1, |d| d.as_secs() % 1_000_000_000);
-    let first = arguments.number("seed", by_clock)?;
+    let mut seed = arguments.number("seed", by_clock)?;
     let until = Instant::now() + Duration::from_secs(seconds);
     let mut score = Score::default();
-    let mut seed = first;
     while Instant::now() < until && score.failed == 0 {
-        let files = compare_bench::compare(&bench, 100, seed);
+        let files = compare_bench::compare(&bench, 200, seed);
         score.passed += files.files - files.failed;
         score.failed += files.failed;
-        if score.failed > 0 {
-            break;
+        if let Some(probe) = probe.as_ref().filter(|_| score.failed == 0) {
+            let cases = compare_probe::compare(probe, 8000, seed);
+            score.passed += cases.cases - cases.failed;
+            score.failed += cases.failed;
         }
-        let cases = compare_probe::compare(&probe, 2000, seed);
-        score.passed += cases.cases - cases.failed;
-        score.failed += cases.failed;
+        println!("seed {seed}: {} passed so far", score.passed);
         seed += 1;
     }
-    println!("seeds {first} to {}", seed - 1);
     Ok(score)
 }
 

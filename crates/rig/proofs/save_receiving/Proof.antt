@@ -1,0 +1,91 @@
+-- `rig::save_receiving`: stores the receive phase word by word. Assumes nothing.
+use Rattle.rig.specs.Record.{savedReceiving}
+use borrow.Author.Needs.{needs}
+use Rattle.rig.proofs.save_receiving.Statement.{statement}
+use Rattle.rig.proofs.save_receiving.Tie as tie
+
+receiving-words-requires : tie.Need-receiving-words-requires
+receiving-words-requires c κs = search needs
+
+array-read-c : tie.Need-array-read-c
+array-read-c c = search needs
+
+element-write-c : tie.Need-element-write-c
+element-write-c c = search needs
+
+array-read-c-2 : tie.Need-array-read-c-2
+array-read-c-2 c = search needs
+
+element-write-c-2 : tie.Need-element-write-c-2
+element-write-c-2 c = search needs
+
+array-read-c-3 : tie.Need-array-read-c-3
+array-read-c-3 c = search needs
+
+element-write-c-3 : tie.Need-element-write-c-3
+element-write-c-3 c = search needs
+
+array-read-c-4 : tie.Need-array-read-c-4
+array-read-c-4 c = search needs
+
+element-write-c-4 : tie.Need-element-write-c-4
+element-write-c-4 c = search needs
+
+array-read-c-5 : tie.Need-array-read-c-5
+array-read-c-5 c = search needs
+
+element-write-c-5 : tie.Need-element-write-c-5
+element-write-c-5 c = search needs
+
+array-read-c-6 : tie.Need-array-read-c-6
+array-read-c-6 c = search needs
+
+element-write-c-6 : tie.Need-element-write-c-6
+element-write-c-6 c = search needs
+
+array-read-c-7 : tie.Need-array-read-c-7
+array-read-c-7 c = search needs
+
+element-write-c-7 : tie.Need-element-write-c-7
+element-write-c-7 c = search needs
+
+array-read-c-8 : tie.Need-array-read-c-8
+array-read-c-8 c = search needs
+
+element-write-c-8 : tie.Need-element-write-c-8
+element-write-c-8 c = search needs
+
+array-read-c-9 : tie.Need-array-read-c-9
+array-read-c-9 c = search needs
+
+element-write-c-9 : tie.Need-element-write-c-9
+element-write-c-9 c = search needs
+
+returns : tie.Need-returns
+unfolding savedReceiving
+returns c = cc
+
+pub save-receiving-spec : {M : Type 1} → statement M
+save-receiving-spec =
+    tie.close
+    (tie.spec
+    receiving-words-requires
+    array-read-c
+    element-write-c
+    array-read-c-2
+    element-write-c-2
+    array-read-c-3
+    element-write-c-3
+    array-read-c-4
+    element-write-c-4
+    array-read-c-5
+    element-write-c-5
+    array-read-c-6
+    element-write-c-6
+    array-read-c-7
+    element-write-c-7
+    array-read-c-8
+    element-write-c-8
+    array-read-c-9
+    element-write-c-9
+    returns)
