@@ -1,5 +1,5 @@
 -- What is still to be fetched: the rules of a descriptor read back, and what keeps them. Assumes nothing.
---     own-parts, own-ends      14, 15 and 17 each did not refuse; EOQ and TD are clear wherever it stands
+--     own-ends                 EOQ and TD are clear wherever it stands
 --     LengthFits, length-fits  there is a byte, and the last is an address
 --     behind-buffer            a receive chain stays one
 --     side-place, ends-place, place-ends   a chain may end only where one may begin
@@ -18,7 +18,7 @@ use Rattle.layout.specs.Layout.{addressEnd, lengthMax, addr}
 use Rattle.layout.specs.declared.Side.{Side}
 use Rattle.layout.specs.declared.Side.the-variants.{Transmit, Receive}
 use Rattle.descriptor.specs.Fields.{eoq, td, lengthOf, firstByte}
-use Rattle.descriptor.specs.Rules.{sideAt, flagsFault, lengthFault, sumFault, behind, endsAt, nextFault, ownFault, fetchFault}
+use Rattle.descriptor.specs.Rules.{sideAt, lengthFault, behind, endsAt, nextFault, ownFault, fetchFault}
 use Rattle.descriptor.specs.declared.Place.{Place}
 use Rattle.descriptor.specs.declared.Place.the-variants.{Start, Middle, Buffer}
 use Rattle.chain.specs.Chain.{placeOf}
@@ -30,9 +30,6 @@ use Rattle.queue.proofs.StoreLaws.{Same, Same3, sames-three}
 use Rattle.queue.proofs.RecordLaws.{RecordFits}
 
 -- ---- the rules read back
-
-pub own-parts : (pl : Place) (x1 x2 x3 : ℕ) → ownFault pl x1 x2 x3 ≡ 0 → (flagsFault pl x3 ≡ 0) × (lengthFault (sideAt pl) x1 x2 x3 ≡ 0) × (sumFault pl x2 x3 ≡ 0)
-own-parts = ownFault-parts
 
 -- EOQ and TD are clear wherever it stands
 pub own-ends : (pl : Place) (x1 x2 x3 : ℕ) → ownFault pl x1 x2 x3 ≡ 0 → (eoq x3 ≡ false) × (td x3 ≡ false)

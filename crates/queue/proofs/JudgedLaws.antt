@@ -1,6 +1,5 @@
 -- A chain that is judged 0, and its hand-over: for both sides at once. Assumes nothing.
 --     Passed, fault-passed     a descriptor without fault: its own rules, its room, its next
---     chain-eq, taken-eq       one step of each walk
 --     Judged, judged-list      the number 0 gives a list of descriptors: linked, over free words, fresh, with room
 --     taken-list               the hand-over takes exactly these
 --     Taken, list-taken, judged-taken      then the words in use and the recorded lengths are those of the queues and of these
@@ -18,7 +17,6 @@ use Rattle.layout.specs.Run.{go, stop, after}
 use Rattle.layout.specs.Layout.{goodPtr, wordOf, addr}
 use Rattle.layout.specs.declared.Side.{Side}
 use Rattle.layout.proofs.ChoiceLaws.{want, orElse-zero}
-use Rattle.layout.proofs.RunLaws.{run-eq}
 use Rattle.layout.proofs.PointerLaws.{goodPtr-is, goodPtr-addr, wordOf-addr, goodPtr-zero}
 use Rattle.words.specs.WordSet.{freeAt, addFour, freeCount}
 use Rattle.words.proofs.SetLaws.{freeCount-falls}
@@ -30,8 +28,8 @@ use Rattle.descriptor.specs.Rules.{sideAt, flagsFault, lengthFault, sumFault, e
 use Rattle.descriptor.specs.declared.Place.{Place}
 use Rattle.chain.specs.Chain.{blockFault, descFault, JSt, JOut, judgeStep, chainOf}
 use Rattle.book.specs.HandOver.{Uses, recordOf, takeOne, takeStep, takenFrom}
-use Rattle.book.proofs.HandOverLaws.{takeStep-falls}
-use Rattle.chain.proofs.ChainLaws.{judgeStep-falls}
+use Rattle.book.proofs.HandOverLaws.{taken-eq}
+use Rattle.chain.proofs.ChainLaws.{chain-eq}
 use Rattle.descriptor.proofs.RuleLaws.{sideAt-behind, ownFault-pass}
 use Rattle.queue.specs.Queue.{start, All, Linked, Sole, Recorded, flat, receiving, Unmet, addAll, takeAll, ownAt, behindAt, Fresh, RoomAt, Roomy}
 use Rattle.queue.proofs.LinkLaws.{linked-small}
@@ -68,11 +66,6 @@ fault-passed kinds w pl d e =
 next-ends : (pl : Place) (x0 : ℕ) → x0 ≡ 0 → nextFault pl x0 ≡ 0 → endsAt pl ≡ 0
 unfolding nextFault
 next-ends pl x0 z e = rw z at e
-
-pub chain-eq : (kinds : List ℕ) (w : ℕ → ℕ) (pl : Place) (met : List ℕ) (p : ℕ)
-    → chainOf kinds w pl met p ≡ after (judgeStep kinds w (pl, met, p)) (λ t. chainOf kinds w (t .0) (t .1) (t .2))
-unfolding chainOf
-chain-eq kinds w pl met p = run-eq (judgeStep kinds w) _ _ (judgeStep-falls kinds w) (pl, met, p)
 
 -- ---- judged 0
 
@@ -140,10 +133,6 @@ judged-list kinds w pl met p e =
     (ap (λ (n : ℕ). (n, chainOf kinds w pl met p .1, chainOf kinds w pl met p .2)) e)
 
 -- ---- the hand-over
-
-pub taken-eq : (w : ℕ → ℕ) (side : Side) (u : Uses) (p : ℕ) → takenFrom w side u p ≡ after (takeStep w side (u, p)) (λ t. takenFrom w side (t .0) (t .1))
-unfolding takenFrom
-taken-eq w side u p = run-eq (takeStep w side) _ _ (takeStep-falls w side) (u, p)
 
 take-words1 : (side : Side) (x2 : ℕ) (u : Uses) (d : ℕ) → takeOne side x2 u d .0 ≡ addFour (u .0) d
 unfolding takeOne

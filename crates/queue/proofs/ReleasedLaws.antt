@@ -13,7 +13,6 @@ use native.Mathlib.Omega.{arith}
 use lib.ListN.{getD}
 use Rattle.layout.specs.Run.{after}
 use Rattle.layout.specs.Layout.{addr}
-use Rattle.layout.proofs.RunLaws.{run-eq}
 use Rattle.layout.proofs.PointerLaws.{goodPtr-addr, wordOf-addr, goodPtr-zero}
 use Rattle.book.specs.declared.Mode.{Mode}
 use Rattle.book.specs.declared.Mode.the-variants.{Head}
@@ -21,16 +20,12 @@ use Rattle.book.specs.declared.Plan.{Plan}
 use Rattle.book.specs.declared.Plan.the-variants.{Keep, Drop}
 use Rattle.book.specs.HandOver.{Uses, dropOne}
 use Rattle.book.specs.Release.{plan, planned, releaseStep, releasedFrom, releasedAll}
-use Rattle.book.proofs.ReleaseLaws.{releaseStep-falls}
+use Rattle.book.proofs.ReleaseLaws.{released-eq}
 use Rattle.queue.specs.Queue.{start, All, Linked, LinkedAll, count, Sole, Recorded, flat, starts, receiving, carry, kept, gone, keptAll, goneAll, dropAll}
 use Rattle.queue.proofs.LinkLaws.{all-left, all-right, all-join}
 use Rattle.queue.proofs.SoleLaws.{count-append, sole-perm, sole-apart, sole-has}
 use Rattle.queue.proofs.KeptLaws.{gone-kept, kept-linked-all, kept-all-again, gone-all-again}
 use Rattle.queue.proofs.RecordLaws.{Fits, None, receiving-all, apart-none, drop-append, sole-drop-all, recorded-drop}
-
-pub released-eq : (w : ℕ → ℕ) (u : Uses) (p : ℕ) (n : Mode) → releasedFrom w u p n ≡ after (releaseStep w (u, p, n)) (λ t. releasedFrom w (t .0) (t .1) (t .2))
-unfolding releasedFrom
-released-eq w u p n = run-eq (releaseStep w) _ _ (releaseStep-falls w) (u, p, n)
 
 -- ---- one queue
 

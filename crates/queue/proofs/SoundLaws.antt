@@ -16,13 +16,13 @@ use lib.Seq.{getD-set-same, getD-set-other}
 use lib.Dec.{eqb, leb}
 use borrow.Author.Tests.{eq-eqb, ne-eqb, eqb-true, le-leb, leb-true}
 use Rattle.layout.specs.Choice.{pick, both}
-use Rattle.layout.specs.Run.{Next, go, stop, after}
+use Rattle.layout.specs.Run.{go, stop, after}
 use Rattle.layout.specs.Layout.{goodPtr, wordOf, addr, lengthMax}
 use Rattle.layout.proofs.ChoiceLaws.{clash, both-left, both-right}
-use Rattle.layout.proofs.RunLaws.{run-eq}
 use Rattle.layout.proofs.PointerLaws.{goodPtr-is, goodPtr-addr, wordOf-addr, goodPtr-zero}
 use Rattle.words.specs.WordSet.{emptySet, freeAt, addFour, freeCount}
 use Rattle.words.proofs.SetLaws.{freeCount-falls, getD-in, length-emptySet, getD-emptySet}
+use Rattle.book.proofs.SoundLaws.{walk-eq, firsts-eq}
 use Rattle.book.specs.Sound.{WSt, WOut, walkStep, walkFrom, walkAll, sameList, firstStep, firstsFrom, firstsAll, lengthFits, lengthsFit, sound}
 use Rattle.queue.specs.Queue.{start, All, Linked, LinkedAll, Off, Apart, count, Sole, Recorded, flat, starts, receiving, Unmet, addAll}
 use Rattle.queue.proofs.LinkLaws.{all-left, all-right, all-join, all-map, all-every, linked-small}
@@ -30,22 +30,6 @@ use Rattle.queue.proofs.SoleLaws.{count-append, sole-perm, sole-unique,
 use Rattle.queue.proofs.RecordLaws.{Fits, None, none-or, receiving-all, apart-receiving, sole-add-all}
 
 -- ---- the walk
-
-go-falls : (z a b : Bool) (x y v : WOut) (u : List ℕ) (d n : ℕ) (t : WSt) → freeAt u d ≡ b
-    → pick {A = Next WSt WOut} z (stop x) (pick a (pick b (go (addFour u d, n)) (stop y)) (stop v)) ≡ go t → freeCount (t .0) < freeCount u
-go-falls true a b x y v u d n t f e = let k : _≡_ {A = ℕ} 0 1 = cc in absurd (omega arith)
-go-falls false true true x y v u d n t f e = let k : (addFour u d, n) ≡ t = cc in rw (← k) (freeCount-falls u d f)
-go-falls false true false x y v u d n t f e = let k : _≡_ {A = ℕ} 0 1 = cc in absurd (omega arith)
-go-falls false false b x y v u d n t f e = let k : _≡_ {A = ℕ} 0 1 = cc in absurd (omega arith)
-
-walk-falls : (w : ℕ → ℕ) (s t : WSt) → walkStep w s ≡ go t → freeCount (t .0) < freeCount (s .0)
-unfolding walkStep
-walk-falls w s t e =
-    go-falls (eqb (s .1) 0) (goodPtr (s .1)) (freeAt (s .0) (wordOf (s .1))) _ _ _ (s .0) (wordOf (s .1)) (w (wordOf (s .1))) t refl e
-
-pub walk-eq : (w : ℕ → ℕ) (met : List ℕ) (p : ℕ) → walkFrom w met p ≡ after (walkStep w (met, p)) (λ t. walkFrom w (t .0) (t .1))
-unfolding walkFrom
-walk-eq w met p = run-eq (walkStep w) _ _ (walk-falls w) (met, p)
 
 pub walk-yes : (w : ℕ → ℕ) (met ds : List ℕ) → Linked w ds → Unmet met ds → walkFrom w met (start ds) ≡ (true, addAll met ds)
 unfolding walkStep
@@ -194,30 +178,6 @@ free-ones f (d ∷ ds) l b a z =
     keep : (es : List ℕ) → All (Off d) es → All (λ e. getD f e 0 ≡ 0) es → All (λ e. getD (set f d 1) e 0 ≡ 0) es
     keep [] o h = tt
     keep (e ∷ es) o h = (getD-set-other f d e 1 0 (off-ne d e (o .0)) ∙ h .0, keep es (o .1) (h .1))
-
--- a first word marked leaves one less
-free-set : (l : List ℕ) (k : ℕ) → getD l k 1 ≡ 0 → freeCount (set l k 1) < freeCount l
-unfolding freeCount
-free-set [] k e = absurd (omega arith)
-free-set (zero ∷ l) zero e = omega arith
-free-set (suc x ∷ l) zero e = absurd (omega arith)
-free-set (zero ∷ l) (suc k) e = omega (arith, free-set l k e)
-free-set (suc x ∷ l) (suc k) e = free-set l k e
-
-first-at : (a b : Bool) (f x y : List ℕ) (d n : ℕ) (t : WSt) → eqb (getD f d 1) 0 ≡ b
-    → pick {A = Next WSt (List ℕ)} a (pick b (go (set f d 1, n)) (stop x)) (stop y) ≡ go t → freeCount (t .0) < freeCount f
-first-at true true f x y d n t h e = let k : (set f d 1, n) ≡ t = cc in rw (← k) (free-set f d (eqb-true _ _ h))
-first-at true false f x y d n t h e = let z : _≡_ {A = ℕ} 0 1 = cc in absurd (omega arith)
-first-at false b f x y d n t h e = let z : _≡_ {A = ℕ} 0 1 = cc in absurd (omega arith)
-
-first-falls : (w : ℕ → ℕ) (s t : WSt) → firstStep w s ≡ go t → freeCount (t .0) < freeCount (s .0)
-unfolding firstStep
-first-falls w s t e =
-    first-at (goodPtr (s .1)) (eqb (getD (s .0) (wordOf (s .1)) 1) 0) (s .0) _ _ (wordOf (s .1)) (w (wordOf (s .1))) t refl e
-
-pub firsts-eq : (w : ℕ → ℕ) (f : List ℕ) (p : ℕ) → firstsFrom w f p ≡ after (firstStep w (f, p)) (λ t. firstsFrom w (t .0) (t .1))
-unfolding firstsFrom
-firsts-eq w f p = run-eq (firstStep w) _ _ (first-falls w) (f, p)
 
 firsts-one : (w : ℕ → ℕ) (f ds : List ℕ) → Linked w ds → Free1 f ds → firstsFrom w f (start ds) ≡ ones f ds
 unfolding firstStep

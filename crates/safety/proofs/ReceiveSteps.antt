@@ -32,7 +32,7 @@ use Rattle.queue.specs.Queue.{start, Linked}
 use Rattle.queue.proofs.LinkLaws.{all-right, all-map, start-zero}
 use Rattle.queue.proofs.KeptLaws.{kept-linked, kept-live}
 use Rattle.queue.proofs.StoreLaws.{Same, Same3, same-same3, Only, marked-only, last-marked-only}
-use Rattle.queue.proofs.FreshLaws.{own-parts, length-fits, behind-buffer, fetch-good, fresh-live}
+use Rattle.queue.proofs.FreshLaws.{length-fits, behind-buffer, fetch-good, fresh-live}
 use Rattle.controller.specs.declared.Burst.{Burst}
 use Rattle.controller.specs.declared.Burst.the-variants.{Quiet, Store}
 use Rattle.controller.specs.declared.Frame.{Frame}
@@ -48,7 +48,7 @@ use Rattle.controller.specs.Controller.{takeMoved, added, receiveStep}
 use Rattle.safety.specs.Statement.{InPlace}
 use Rattle.safety.proofs.View.{View, ctlOf, wordsOf, modeOf, leftR, setRegs, takes}
 use Rattle.safety.proofs.Inv.{Fillable, Spot, Latched, Latch, Owned, Through, AtFetch, AtStoring, AtFilled, AtLast, AtFirst, RxInv, idleRx, Turn, Good}
-use Rattle.descriptor.proofs.RuleLaws.{flagsFault-buffer}
+use Rattle.descriptor.proofs.RuleLaws.{flagsFault-buffer, ownFault-parts}
 use Rattle.descriptor.proofs.MarkLaws.{word-lastMarked-flags}
 use Rattle.descriptor.proofs.FlagLaws.{eop-lastMark, eoq-lastMark, owner-lastMark, td-lastMark, owner-firstMark, eop-firstMark, eoq-firstMark, td-firstMark, firstMark-lt}
 use Rattle.safety.proofs.Frame.{fillable-same}
@@ -108,7 +108,7 @@ fetch-fine v g f t i =
     let z = i .spot in
     let d = z .d in
     let lk = spot-linked w (leftR v) z (left-linked v g) in
-    let own = own-parts Buffer (w (d + 1)) (w (d + 2)) (w (d + 3)) (i .todo .fresh .0) in
+    let own = ownFault-parts Buffer (w (d + 1)) (w (d + 2)) (w (d + 3)) (i .todo .fresh .0) in
     let flags = flagsFault-buffer (w (d + 3)) (own .0) in
     let fits = length-fits Receive (w (d + 1)) (w (d + 2)) (w (d + 3)) (own .1) in
     let end : w (d + 1) + lengthOf Receive (w (d + 2)) ≤ addressEnd = rw (receive-first (w (d + 1)) (w (d + 2)) (w (d + 3))) at (fits .last) in

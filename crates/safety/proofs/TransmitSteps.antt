@@ -30,7 +30,8 @@ use Rattle.queue.specs.Queue.{start, Linked, Fresh}
 use Rattle.queue.proofs.LinkLaws.{all-map, start-zero}
 use Rattle.queue.proofs.KeptLaws.{kept-linked, kept-live}
 use Rattle.queue.proofs.StoreLaws.{Same, Same3, same-same3, Only, marked-only}
-use Rattle.queue.proofs.FreshLaws.{own-parts, own-ends, LengthFits, length-fits, fetch-good, fresh-live}
+use Rattle.descriptor.proofs.RuleLaws.{ownFault-parts}
+use Rattle.queue.proofs.FreshLaws.{own-ends, LengthFits, length-fits, fetch-good, fresh-live}
 use Rattle.controller.specs.declared.Burst.{Burst}
 use Rattle.controller.specs.declared.Burst.the-variants.{Quiet, Read}
 use Rattle.controller.specs.declared.Reading.{Reading}
@@ -84,7 +85,7 @@ behind-place (Middle a n) x2 x3 s = refl
 behind-place Buffer x2 x3 s = let z : _≡_ {A = ℕ} 0 1 = cc in absurd (omega arith)
 
 own-length : (pl : Place) (x1 x2 x3 : ℕ) → sideAt pl ≡ Transmit → ownFault pl x1 x2 x3 ≡ 0 → LengthFits Transmit x1 x2 x3
-own-length pl x1 x2 x3 s e = length-fits Transmit x1 x2 x3 (rw s at (own-parts pl x1 x2 x3 e .1))
+own-length pl x1 x2 x3 s e = length-fits Transmit x1 x2 x3 (rw s at (ownFault-parts pl x1 x2 x3 e .1))
 
 left-linked : (v : View) → Good v → Linked (wordsOf v) (leftT v)
 left-linked v g = kept-linked (wordsOf v) (modeOf v) (v .store .qt) (g .held .linkT)
