@@ -1,6 +1,7 @@
 #!/usr/bin/env python3
 """Holds docs/DEFINITIONS.md to the sources: each file it names is there, each name in a row stands in that row's file,
-and every public definition of a specs/ folder has a row."""
+and every public definition of a specs/ folder has a row. Holds docs/PROMISES.md to them: every public function has a row,
+and every wrong answer that a row names is an edit that is tried."""
 import pathlib
 import re
 import sys
@@ -40,6 +41,15 @@ for path in sorted(top.glob("crates/*/specs/*.antt")):
         if name in ("mod",) or name in named:
             continue
         wrong.append(f"{name} of {path.relative_to(top)} has no row")
+promises = (top / "docs" / "PROMISES.md").read_text(encoding="utf-8")
+edits = {p.stem for p in [*top.glob("crates/*/must-fail/*.edit"), *top.glob("tests/more-edits/*/*.edit")]}
+for name in re.findall(r"\b\d\d_[a-z0-9_]+[a-z0-9]\b", promises):
+    if name not in edits:
+        wrong.append(f"docs/PROMISES.md names {name}, which is no edit")
+for path in sorted(top.glob("crates/*/src/lib.rt")):
+    for name in re.findall(r"^pub (?:extern \"C\" )?fn (\w+)", path.read_text(encoding="utf-8"), re.M):
+        if not re.search(r"`(?:\w+::)?" + name + r"`", promises):
+            wrong.append(f"{name} of {path.relative_to(top)} has no row in docs/PROMISES.md")
 for w in wrong:
     print(w)
 sys.exit(1 if wrong else 0)

@@ -8,6 +8,8 @@
 #define EOP 0x40000000u
 #define OWNER 0x20000000u
 #define EOQ 0x10000000u
+#define TX_TEARDOWN 0x4A100808u
+#define RX_TEARDOWN 0x4A100818u
 #define TX_HDP 0x4A100A00u
 #define RX_HDP 0x4A100A20u
 #define TX_CP 0x4A100A40u

@@ -6,12 +6,8 @@
 #include <stdio.h>
 #include <ucontext.h>
 
-/* The goal is 3 KiB. The board's object meets it; the x86-64 archive misses it by 176 bytes (docs/PERFORMANCE.md) and is held where it stands. */
-#ifdef __arm__
+/* 3 KiB, on both machines: the trap handler runs on a stack of 4 KiB. */
 #define LIMIT 3072
-#else
-#define LIMIT 3264
-#endif
 #define STACK 65536
 #define PAINT 0xA5
 
@@ -83,6 +79,9 @@ static unsigned deepest_write(enum call c, unsigned n) {
     answers += gresomund_effect(result) != GRESOMUND_APPENDED;
     begin(&s, 4), chain(&s, 0, rest, size), write_full(&s, hdp, at(0)), chain(&s, rest, 1, size);
     d = depth(c, at(rest - 1), at(rest)), most = d > most ? d : most; /* one after n */
+    answers += gresomund_effect(result) != GRESOMUND_APPENDED;
+    begin(&s, 4), chain(&s, 0, 1, size), write_full(&s, hdp, at(0)), write_full(&s, size ? TX_TEARDOWN : RX_TEARDOWN, 0), chain(&s, 1, rest, size);
+    d = depth(c, at(0), at(1)), most = d > most ? d : most; /* n after one, while a teardown is pending */
     answers += gresomund_effect(result) != GRESOMUND_APPENDED;
     begin(&s, 4), chain(&s, 0, n, size), write_full(&s, hdp, at(0));
     d = depth(c, at(0) + 4, 1), most = d > most ? d : most;

@@ -22,7 +22,7 @@ REPO = HERE.parent.parent
 sys.path.insert(0, str(HERE.parent / "definition-edits"))
 from run import OTHER, read_edit
 
-ERROR = re.compile(r"^(?:note: )?\S*?crates/([a-z]+)/((?:specs|proofs|src)/[^:]*):\d+:\d+: (.*)", re.M)
+ERROR = re.compile(r"^(?:note: )?\S*?crates/([a-z]+)/((?:specs|proofs|src)/[^:]*):\d+:\d+: (error: .*|it is not proved .*)", re.M)
 WHY = "--why" in sys.argv
 
 

@@ -1,1 +1,3 @@
 pub mod CrossingLaws
+pub mod StateLaws
+pub mod QuietLaws

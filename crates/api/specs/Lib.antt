@@ -1,2 +1,3 @@
 pub mod State
 pub mod Crossing
+pub mod Quiet

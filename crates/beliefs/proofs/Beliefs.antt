@@ -65,7 +65,7 @@ pub record EmptyQueue : Type 0 where
   pub free : has (releasedEarly .used) 0 ≡ false
   pub rewritten : numberFor (write (addr 0) 0x4A10_2010) releasedEarly ≡ 0
   -- the controller still stands on that descriptor, with step 6 to do
-  pub busy : releasedEarly .ctl .tx ≡ S.Done 0
+  pub busy : releasedEarly .ctl .tx ≡ S.Done (record { next = 0 })
   pub standing : hdpOf (releasedEarly .ctl .regs) 0 ≡ addr 0
   -- so a start is refused by what HDP reads, where the book alone would let it through
   pub refused : numberFor (write txHdp (addr 4)) (runOps (packet 4) releasedEarly) ≡ 10

@@ -85,7 +85,7 @@ send-unfit held m x (S.Moving r) hdp cp e = send-same e
 send-unfit held m x (S.Ended f) hdp cp e = send-same e
 send-unfit held m x (S.Marking f) hdp cp e = send-eoq (eqb (f .next) 0) (goodPtr hdp) _ m _ x e
 send-unfit held m x (S.Owning f) hdp cp e = send-mark (goodPtr (f .sop)) _ m _ x e
-send-unfit held m x (S.Done n) hdp cp e = send-same e
+send-unfit held m x (S.Done f) hdp cp e = send-same e
 
 pub take-unfit : (m x : List ℕ) (s : Receiving) (hdp cp : ℕ) → U.takeStep m s hdp cp ≡ (Takes.Unfit, x) → x ≡ m
 unfolding U.takeStep U.markLast U.markFirst
@@ -96,7 +96,7 @@ take-unfit m x (R.Moving s) hdp cp e = take-same e
 take-unfit m x (R.Ended f) hdp cp e = take-same e
 take-unfit m x (R.Last s) hdp cp e = take-mark (ltb lengthMax (s .here)) (goodPtr hdp) _ m _ x e
 take-unfit m x (R.First s) hdp cp e = take-mark (ltb lengthMax (s .stored)) (goodPtr (s .first)) _ m _ x e
-take-unfit m x (R.Done n) hdp cp e = take-same e
+take-unfit m x (R.Done f) hdp cp e = take-same e
 
 -- ---- the engines' steps at the flags and registers that the record has
 

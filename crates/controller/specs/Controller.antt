@@ -177,7 +177,7 @@ quietTx (S.Moving r) = false
 quietTx (S.Ended e) = false
 quietTx (S.Marking e) = false
 quietTx (S.Owning e) = false
-quietTx (S.Done n) = false
+quietTx (S.Done e) = false
 
 abbrev pub quietRx : Receiving → Bool
 quietRx R.Idle = true
@@ -187,7 +187,7 @@ quietRx (R.Moving s) = false
 quietRx (R.Ended e) = false
 quietRx (R.Last s) = false
 quietRx (R.First s) = false
-quietRx (R.Done n) = false
+quietRx (R.Done e) = false
 
 abbrev pub quiet : Controller → ℕ → Bool
 quiet c q = pick (eqb q 0) (quietTx (c .tx)) (quietRx (c .rx))
@@ -249,7 +249,7 @@ waits (R.Moving s) = false
 waits (R.Ended e) = false
 waits (R.Last s) = false
 waits (R.First s) = false
-waits (R.Done n) = false
+waits (R.Done e) = false
 
 pub record Framed : Type 0 where
   pub ctl : Controller

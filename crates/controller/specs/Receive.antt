@@ -115,7 +115,7 @@ unfoldable pub markFirst : List ℕ → Stored → ℕ → ℕ → Takes × List
 markFirst m s hdp cp =
     pick (ltb lengthMax (s .stored)) (Unfit, m)
     (pick (goodPtr (s .first)) (
-      Went (record { state = Done (s .next); hdp = hdp; cp = cp; burst = Quiet; octets = s .stored }),
+      Went (record { state = Done (record { next = s .next }); hdp = hdp; cp = cp; burst = Quiet; octets = s .stored }),
       marked (firstMark (s .stored) (s .overrun)) (wordOf (s .first)) m,
     )
     (Unfit, m))
@@ -132,4 +132,4 @@ takeStep m (Moving s) hdp cp = (storeBurst s hdp cp, m)
 takeStep m (Ended e) hdp cp = (close (word m) e hdp cp, m)
 takeStep m (Last s) hdp cp = markLast m s hdp cp
 takeStep m (First s) hdp cp = markFirst m s hdp cp
-takeStep m (Done n) hdp cp = (finish n hdp, m)
+takeStep m (Done e) hdp cp = (finish (e .next) hdp, m)

@@ -109,7 +109,7 @@ octetsOf word3 = packetLength word3
 unfoldable pub clearOwn : List ℕ → Closing → ℕ → ℕ → Sends × List ℕ
 clearOwn m e hdp cp =
     pick (goodPtr (e .sop)) (
-      Went (record { state = Done (e .next); hdp = hdp; cp = cp; burst = Quiet; octets = octetsOf (e .word3) }),
+      Went (record { state = Done (record { next = e .next }); hdp = hdp; cp = cp; burst = Quiet; octets = octetsOf (e .word3) }),
       marked ownerMark (wordOf (e .sop)) m,
     )
     (Unfit, m)
@@ -127,4 +127,4 @@ sendStep held m (Moving r) hdp cp = (readBurst r hdp cp, m)
 sendStep held m (Ended e) hdp cp = (close (word m) e hdp cp, m)
 sendStep held m (Marking e) hdp cp = markEoq m e hdp cp
 sendStep held m (Owning e) hdp cp = clearOwn m e hdp cp
-sendStep held m (Done n) hdp cp = (finish n hdp, m)
+sendStep held m (Done e) hdp cp = (finish (e .next) hdp, m)

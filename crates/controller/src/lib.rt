@@ -90,6 +90,11 @@ pub struct Closing {
     pub next: u32,
 }
 
+// Steps 6 of both engines: the packet is marked; the next that was latched.
+pub struct Leaving {
+    pub next: u32,
+}
+
 // The transmit engine. Its current descriptor is always the one at HDP.
 pub enum Sending {
     Idle,
@@ -99,7 +104,7 @@ pub enum Sending {
     Ended(Finished),
     Marking(Closing),
     Owning(Closing),
-    Done(u32),
+    Done(Leaving),
 }
 
 // Receive step 1: the frame's first descriptor, the bytes stored so far and those still to come.
@@ -146,7 +151,7 @@ pub enum Receiving {
     Ended(Filled),
     Last(Stored),
     First(Stored),
-    Done(u32),
+    Done(Leaving),
 }
 
 // One step of the transmit engine: the next phase, its registers, the burst, and the octets of a packet just sent.

@@ -4,6 +4,7 @@
 use crate::Burst;
 use crate::Filled;
 use crate::Frame;
+use crate::Leaving;
 use crate::Receiving;
 use crate::Stored;
 use crate::Storing;
@@ -235,7 +236,8 @@ impl Stored {
             return Takes::Unfit;
         }
         mark_first(m, word_number(first), self.stored, self.overrun);
-        let state = Receiving::Done(self.next);
+        let leaving = Leaving { next: self.next };
+        let state = Receiving::Done(leaving);
         let burst = Burst::Quiet;
         Takes::Went(Took {
             state: state,
@@ -247,14 +249,17 @@ impl Stored {
     }
 }
 
-// (6) HDP takes the latched next, CP the last descriptor's address, which HDP still holds.
-fn finish_taking(next: u32, hdp: u32) -> Takes
-    ensures { λ r. ⌜ r ≡ finish next hdp ⌝ }
-{
-    if next == 0 {
-        return to_phase(Receiving::Idle, next, hdp);
+impl Leaving {
+    // (6) HDP takes the latched next, CP the last descriptor's address, which HDP still holds.
+    fn finish_taking(self, hdp: u32) -> Takes
+        ensures { λ r. ⌜ r ≡ finish (self .next) hdp ⌝ }
+    {
+        let next = self.next;
+        if next == 0 {
+            return to_phase(Receiving::Idle, next, hdp);
+        }
+        to_phase(Receiving::Wait, next, hdp)
     }
-    to_phase(Receiving::Wait, next, hdp)
 }
 
 // The step of any phase.
@@ -270,6 +275,6 @@ pub fn step_receive(m: &mut [u8], s: Receiving, hdp: u32, cp: u32) -> Takes
         Receiving::Ended(e) => e.close(&m[..], hdp, cp),
         Receiving::Last(e) => e.set_last(m, hdp, cp),
         Receiving::First(e) => e.set_first(m, hdp, cp),
-        Receiving::Done(next) => finish_taking(next, hdp),
+        Receiving::Done(e) => e.finish_taking(hdp),
     }
 }

@@ -4,6 +4,7 @@
 use crate::Burst;
 use crate::Closing;
 use crate::Finished;
+use crate::Leaving;
 use crate::Packet;
 use crate::Reading;
 use crate::Sending;
@@ -204,7 +205,8 @@ impl Closing {
             return Sends::Unfit;
         }
         mark_owner(m, word_number(sop));
-        let state = Sending::Done(self.next);
+        let leaving = Leaving { next: self.next };
+        let state = Sending::Done(leaving);
         let burst = Burst::Quiet;
         Sends::Went(Sent {
             state: state,
@@ -216,14 +218,17 @@ impl Closing {
     }
 }
 
-// (6) HDP takes the latched next, CP the EOP descriptor's address, which HDP still holds.
-fn finish_sending(next: u32, hdp: u32) -> Sends
-    ensures { λ r. ⌜ r ≡ finish next hdp ⌝ }
-{
-    if next == 0 {
-        return to_phase(Sending::Idle, next, hdp);
+impl Leaving {
+    // (6) HDP takes the latched next, CP the EOP descriptor's address, which HDP still holds.
+    fn finish_sending(self, hdp: u32) -> Sends
+        ensures { λ r. ⌜ r ≡ finish (self .next) hdp ⌝ }
+    {
+        let next = self.next;
+        if next == 0 {
+            return to_phase(Sending::Idle, next, hdp);
+        }
+        to_phase(Sending::New, next, hdp)
     }
-    to_phase(Sending::New, next, hdp)
 }
 
 // The step of any phase; held: while reset or transmit teardown is pending.
@@ -239,6 +244,6 @@ pub fn step_transmit(m: &mut [u8], s: Sending, hdp: u32, cp: u32, held: bool) ->
         Sending::Ended(e) => e.close(&m[..], hdp, cp),
         Sending::Marking(e) => e.set_eoq(m, hdp, cp),
         Sending::Owning(e) => e.clear_own(m, hdp, cp),
-        Sending::Done(next) => finish_sending(next, hdp),
+        Sending::Done(e) => e.finish_sending(hdp),
     }
 }

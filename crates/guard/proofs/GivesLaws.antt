@@ -3,8 +3,8 @@
 --     word-gives                    a word of descriptor memory
 --     judge-3, address-word, address-class   which of them an address asks for
 --     release-is, released-gives    the release, from its parts
---     write-gives, write-1, write-2 a whole guest write
---     fit-size, fit-unfit, unfit-size, sound-world   1 and 2 as the functions find them
+--     admitted-refused, write-refused, write-gives   a whole guest write
+--     fit-size, fit-unfit, unfit-size, state-fits, state-size, state-1, state-2, state-0   1 and 2 as the functions find them
 use Prim.Native.Nat.{ℕ, _+_, _-_, _/_, _%_}
 use mathlib.Core.Path.{_≡_, refl, ap, ap₂, _∙_, sym, subst}
 use mathlib.Core.Bool.{Bool, true, false, not}
@@ -42,7 +42,7 @@ use Rattle.guard.specs.Answers.{Outcome, accept, refuse, refusedDone, ac
 use Rattle.guard.specs.Judges.{started, judgeStart, judgeHead, judgeRegister, isLast, judgeAppend, judgeLast, judgeWord, judgeClass, judge}
 use Rattle.book.specs.Sound.{sound}
 use Rattle.guard.specs.Guard.{admitted, guestWrite}
-use Rattle.guard.specs.Rulings.{decided, starting, headRuling, registerRuling, handedOver, appended, Worded, answerTo, appendOutcome, lastOutcome, wordOutcome}
+use Rattle.guard.specs.Rulings.{decided, starting, headRuling, registerRuling, handedOver, appended, Worded, answerTo, appendOutcome, lastOutcome, wordOutcome, stateFault}
 
 module _ (m k : List ℕ) (b : Book) (u l : List ℕ) (r : Regs) where
   -- ---- results without the tables
@@ -224,14 +224,22 @@ module _ (m k : List ℕ) (b : Book) (u l : List ℕ) (r : Regs) where
   unfolding release
   release-is x y e f = sym (ap₂ (λ (z : List ℕ × Uses) (g : Flags). setFlags g (setHeads (z .0) (z .1) (worldAt m k b u l r))) e f)
 
-  pub write-1 : (a v : ℕ) → fitParts m k ≡ false → Gives (guestWrite a v (worldAt m k b u l r)) (refusedDone 1 b r) m k u l
-  unfolding guestWrite admitted unfit
-  write-1 a v e = rw e (refused-gives 1)
+  -- ---- 1 and 2
+  refused-at : (f g : Bool) (n : ℕ) (o : Outcome) → n ≡ pick f (pick g 0 2) 1 → n ≢ 0
+      → pick (not f) (refuse 1 (worldAt m k b u l r)) (pick g o (refuse 2 (worldAt m k b u l r))) ≡ refuse n (worldAt m k b u l r)
+  refused-at true true n o e h = absurd (h e)
+  refused-at true false n o e h = rw e refl
+  refused-at false g n o e h = rw e refl
 
-  pub write-2 : (a v : ℕ) → fitParts m k ≡ true → soundWorld (worldAt m k b u l r) ≡ false
-      → Gives (guestWrite a v (worldAt m k b u l r)) (refusedDone 2 b r) m k u l
-  unfolding guestWrite admitted unfit
-  write-2 a v e f = rw (e, f) (refused-gives 2)
+  pub admitted-refused : (act : World → Outcome) (n : ℕ) → n ≡ stateFault m k (b .heads) u l → n ≢ 0
+      → admitted (worldAt m k b u l r) act ≡ refuse n (worldAt m k b u l r)
+  unfolding admitted unfit soundWorld stateFault
+  admitted-refused act n e h = refused-at (fitParts m k) (sound (word m) (b .heads) u l) n _ e h
+
+  pub write-refused : (a v n : ℕ) → n ≡ stateFault m k (b .heads) u l → n ≢ 0
+      → Gives (guestWrite a v (worldAt m k b u l r)) (refusedDone n b r) m k u l
+  unfolding guestWrite
+  write-refused a v n e h = rw (admitted-refused (λ t. judge a v t) n e h) (refused-gives n)
 
 module _ (a v : ℕ) (s : World) (d : Done) (m k u l : List ℕ) where
   pub address-word : (i : ℕ) → i ≡ (a - descFirst) / 4 → a % 4 ≡ 0 → inDescriptors a ≡ true → Gives (judgeWord i v s) d m k u l → Gives (judge a v s) d m k u l
@@ -261,6 +269,32 @@ pub unfit-size : (s : World) → unfit s ≡ false → length (s .mem) ≡ 8192
 unfolding unfit
 unfit-size s e = fit-size (s .mem) (s .kinds) (not-false _ e)
 
-pub sound-world : {t : Bool} (s : World) → sound (word (s .mem)) (s .book .heads) (s .used) (s .lens) ≡ t → soundWorld s ≡ t
-unfolding soundWorld
-sound-world s e = e
+none-at : (f g : Bool) → _≡_ {A = ℕ} (pick f (pick g 0 2) 1) 0 → (f ≡ true) × (g ≡ true)
+none-at true true e = (refl, refl)
+none-at true false e = let z : _≡_ {A = ℕ} 2 0 = e in absurd (omega arith)
+none-at false g e = let z : _≡_ {A = ℕ} 1 0 = e in absurd (omega arith)
+
+pub state-fits : (s : World) (n : ℕ) → n ≡ stateFault (s .mem) (s .kinds) (s .book .heads) (s .used) (s .lens) → n ≡ 0
+    → (unfit s ≡ false) × (soundWorld s ≡ true)
+unfolding stateFault soundWorld
+state-fits s n e h =
+    let x = none-at (fitParts (s .mem) (s .kinds)) (sound (word (s .mem)) (s .book .heads) (s .used) (s .lens)) (sym e ∙ h) in
+    (fit-unfit s (x .0), x .1)
+
+-- ---- the number of 1 and 2
+module _ (m k heads u l : List ℕ) where
+  pub state-1 : fitParts m k ≡ false → 1 ≡ stateFault m k heads u l
+  unfolding stateFault
+  state-1 e = rw e refl
+
+  pub state-2 : fitParts m k ≡ true → sound (word m) heads u l ≡ false → 2 ≡ stateFault m k heads u l
+  unfolding stateFault
+  state-2 e f = rw (e, f) refl
+
+  pub state-0 : fitParts m k ≡ true → sound (word m) heads u l ≡ true → 0 ≡ stateFault m k heads u l
+  unfolding stateFault
+  state-0 e f = rw (e, f) refl
+
+  pub state-size : (n : ℕ) → n ≡ stateFault m k heads u l → n ≡ 0 → length m ≡ 8192
+  unfolding stateFault
+  state-size n e h = fit-size m k (none-at (fitParts m k) (sound (word m) heads u l) (sym e ∙ h) .0)

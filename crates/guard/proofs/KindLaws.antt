@@ -4,7 +4,7 @@
 --     touches-none, touches-past    no length is recorded here; the last word begins no descriptor
 --     kind-18 .. kind-0             each number
 --     kind-gives                    the change of one block on a released world
---     change-gives, change-1, change-2   a whole kind change
+--     change-gives, change-refused   a whole kind change
 use Prim.Native.Nat.{ℕ, zero, suc, _+_, _*_, _≤_, _<_, _^_}
 use mathlib.Core.Path.{_≡_, refl, ap, _∙_, sym, subst}
 use mathlib.Core.Bool.{Bool, true, false, not}
@@ -27,8 +27,8 @@ use Rattle.guard.specs.declared.Answer.the-variants.{Accepted, Refused}
 use Rattle.guard.specs.declared.Done.{Done}
 use Rattle.guard.specs.Answers.{Outcome, accept, refuse, refusedDone, worldAt, Gives}
 use Rattle.guard.specs.Guard.{admitted, received, inReception, judgeKind, kindChange}
-use Rattle.guard.specs.Rulings.{answerTo, kindNumber, kindOutcome}
-use Rattle.guard.proofs.GivesLaws.{refused-gives}
+use Rattle.guard.specs.Rulings.{answerTo, kindNumber, kindOutcome, stateFault}
+use Rattle.guard.proofs.GivesLaws.{refused-gives, admitted-refused}
 
 -- ---- receive buffers
 pub received-next : (w : ℕ → ℕ) (b i j : ℕ) (l : List ℕ) → i < length l → received w j (drop i l) b ≡ pick (touches b (w (j + 1)) (getD l i 0)) true (received w (j + 1) (drop (suc i) l) b)
@@ -178,14 +178,10 @@ module _ (m k : List ℕ) (b : Book) (u l : List ℕ) (r : Regs) where
       changed-at i v (eqb (pick (ltb i (length k)) (pick (both (leb 1 v) (leb v 4)) (pick (eqb (getD k i 0) 0) 20 (pick (both (not (eqb v 1)) (inReception (word m) l i)) 21 0)) 19) 18) 0) _ _ refl
       (number-at i v (ltb i (length k)) (both (leb 1 v) (leb v 4)) (eqb (getD k i 0) 0) (not (eqb v 1)) (inReception (word m) l i)) x e a f
 
-  pub change-1 : (i v : ℕ) → fitParts m k ≡ false → Gives (kindChange i v (worldAt m k b u l r)) (refusedDone 1 b r) m k u l
-  unfolding kindChange admitted unfit
-  change-1 i v e = rw e (refused-gives m k b u l r 1)
-
-  pub change-2 : (i v : ℕ) → fitParts m k ≡ true → soundWorld (worldAt m k b u l r) ≡ false
-      → Gives (kindChange i v (worldAt m k b u l r)) (refusedDone 2 b r) m k u l
-  unfolding kindChange admitted unfit
-  change-2 i v e f = rw (e, f) (refused-gives m k b u l r 2)
+  pub change-refused : (i v n : ℕ) → n ≡ stateFault m k (b .heads) u l → n ≢ 0
+      → Gives (kindChange i v (worldAt m k b u l r)) (refusedDone n b r) m k u l
+  unfolding kindChange
+  change-refused i v n e h = rw (admitted-refused m k b u l r (λ t. judgeKind (i ∷ []) v t) n e h) (refused-gives m k b u l r n)
 
 module _ (i v : ℕ) (s : World) (d : Done) (m k u l : List ℕ) where
   pub kind-released : (t : World) → release s ≡ t → Gives (judgeKind (i ∷ []) v t) d m k u l → Gives (judgeKind (i ∷ []) v (release s)) d m k u l

@@ -1,7 +1,7 @@
 -- What the judges of chains and words come to, in the form that the functions' proofs cite. Assumes nothing.
---     over-refused, over-taken       a chain for HDP: refused, or handed over
---     append-refused, append-taken   a chain for an append
---     last-first, last-second, last-none   which queue an append is to
+--     over-refused, over-taken       a chain: refused, or handed over
+--     append-refused, append-taken   an append
+--     last-tail, last-nobody         which queue an append is to
 --     word-free, word-busy, word-zero, word-last   a word of descriptor memory
 use Prim.Native.Nat.{ℕ}
 use mathlib.Core.Path.{_≡_, refl, ap, _∙_, sym}
@@ -26,7 +26,9 @@ use Rattle.guard.specs.declared.Answer.{Answer}
 use Rattle.guard.specs.declared.Answer.the-variants.{Accepted, Refused}
 use Rattle.guard.specs.declared.Effect.the-variants.{Plain, Appended}
 use Rattle.guard.specs.Judges.{isLast}
-use Rattle.guard.specs.Rulings.{Worded, answerTo, handedOver, appended, lastOutcome, wordOutcome}
+use Rattle.guard.specs.declared.Tail.{Tail}
+use Rattle.guard.specs.declared.Tail.the-variants.{Of, Nobody}
+use Rattle.guard.specs.Rulings.{Worded, answerTo, handedOver, appended, appendOutcome, tailAt, lastOutcome, wordOutcome}
 
 -- what a verdict says of the number that it was made of
 good-at : (t : Bool) (f : Fault) → pick t Good (Bad f) ≡ Good → t ≡ true
@@ -37,15 +39,20 @@ bad-at : (t : Bool) (f g : Fault) → pick t Good (Bad f) ≡ Bad g → (t ≡ f
 bad-at true f g e = let z : _≡_ {A = ℕ} 0 1 = cc in absurd (omega arith)
 bad-at false f g e = (refl, ap verdictNumber (sym e))
 
-module _ (side : Side) (kinds : List ℕ) (w : ℕ → ℕ) (u met met2 : List ℕ) (p : ℕ) (c : Verdict) (em : met ≡ u) (ev : (c, met2) ≡ verdictOf side kinds w met p) where
+pub verdict-used : (side : Side) (kinds : List ℕ) (w : ℕ → ℕ) (u met met2 : List ℕ) (p : ℕ) (c : Verdict) → met ≡ u → (c, met2) ≡ verdictOf side kinds w met p
+    → c ≡ verdictOf side kinds w u p .0
+verdict-used side kinds w u met met2 p c em ev =
+    ap (λ (x : Verdict × List ℕ). x .0) ev ∙ ap (λ (l : List ℕ). verdictOf side kinds w l p .0) em
+
+module _ (side : Side) (kinds : List ℕ) (w : ℕ → ℕ) (u : List ℕ) (p : ℕ) (c : Verdict) (ev : c ≡ verdictOf side kinds w u p .0) where
   verdict-is : c ≡ said kinds w side (chainOf kinds w (placeOf side) u p)
   unfolding verdictOf
-  verdict-is = ap (λ (x : Verdict × List ℕ). x .0) ev ∙ ap (λ (l : List ℕ). said kinds w side (chainOf kinds w (placeOf side) l p)) em
+  verdict-is = ev
 
-  pub chain-good : c ≡ Good → eqb (chainOf kinds w (placeOf side) u p .0) 0 ≡ true
+  chain-good : c ≡ Good → eqb (chainOf kinds w (placeOf side) u p .0) 0 ≡ true
   chain-good e = good-at _ _ (sym verdict-is ∙ e)
 
-  pub chain-bad : (f : Fault) (n : ℕ) → c ≡ Bad f → n ≡ verdictNumber c
+  chain-bad : (f : Fault) (n : ℕ) → c ≡ Bad f → n ≡ verdictNumber c
       → (eqb (chainOf kinds w (placeOf side) u p .0) 0 ≡ false) × (n ≡ chainOf kinds w (placeOf side) u p .0)
   chain-bad f n e en =
       let b = bad-at _ _ f (sym verdict-is ∙ e) in
@@ -59,36 +66,48 @@ module _ (side : Side) (kinds : List ℕ) (w : ℕ → ℕ) (u met met2 : List �
   unfolding handedOver
   over-taken l x e ex = rw (chain-good e) (ap (λ (y : Uses). (0, y)) ex)
 
-module _ (side : Side) (kinds : List ℕ) (k : ℕ) (m u met met2 : List ℕ) (p : ℕ) (c : Verdict) (em : met ≡ u) (ev : (c, met2) ≡ verdictOf side kinds (word m) met p) where
+module _ (side : Side) (kinds : List ℕ) (k : ℕ) (m u : List ℕ) (p : ℕ) (c : Verdict) (ev : c ≡ verdictOf side kinds (word m) u p .0) where
   pub append-refused : (l : List ℕ) (f : Fault) (n : ℕ) → c ≡ Bad f → n ≡ verdictNumber c → (n, (u, l), m) ≡ appended side kinds k m (u, l) p
   unfolding appended
   append-refused l f n e en =
-      let b = chain-bad side kinds (word m) u met met2 p c em ev f n e en in
+      let b = chain-bad side kinds (word m) u p c ev f n e en in
       rw (b .0) (ap (λ (j : ℕ). (j, (u, l), m)) (b .1))
 
   pub append-taken : (l : List ℕ) (x : Uses) (y : List ℕ) → c ≡ Good → x ≡ takenFrom (word m) side (u, l) p → y ≡ put m k p
       → (0, x, y) ≡ appended side kinds k m (u, l) p
   unfolding appended
   append-taken l x y e ex ey =
-      rw (chain-good side kinds (word m) u met met2 p c em ev e) (ap (λ (z : Uses). (0, z, y)) ex ∙ ap (λ (z : List ℕ). (0, takenFrom (word m) side (u, l) p, z)) ey)
+      rw (chain-good side kinds (word m) u p c ev e) (ap (λ (z : Uses). (0, z, y)) ex ∙ ap (λ (z : List ℕ). (0, takenFrom (word m) side (u, l) p, z)) ey)
+
+-- whose tail a word is, and what is made of it
+abbrev sideIn : Tail → Side
+sideIn (Of s) = s
+sideIn Nobody = Transmit
+
+of-at : (b c : Bool) (s : Side) (f : Side → Worded) (o : Worded) → Of s ≡ pick b (Of Transmit) (pick c (Of Receive) Nobody)
+    → f s ≡ pick b (f Transmit) (pick c (f Receive) o)
+of-at true c s f o e = ap (λ (x : Tail). f (sideIn x)) e
+of-at false true s f o e = ap (λ (x : Tail). f (sideIn x)) e
+of-at false false s f o e = let z : _≡_ {A = ℕ} 0 1 = cc in absurd (omega arith)
+
+nobody-at : (b c : Bool) (x y o : Worded) → Nobody ≡ pick b (Of Transmit) (pick c (Of Receive) Nobody) → o ≡ pick b x (pick c y o)
+nobody-at true c x y o e = let z : _≡_ {A = ℕ} 0 1 = cc in absurd (omega arith)
+nobody-at false true x y o e = let z : _≡_ {A = ℕ} 0 1 = cc in absurd (omega arith)
+nobody-at false false x y o e = refl
 
 -- ---- an append
 module _ (k v : ℕ) (kinds m : List ℕ) (t r : ℕ) (u : Uses) where
-  pub last-first : (a : Answer) (n : ℕ) (x : Uses) (y : List ℕ) → isLast (word m) t k ≡ true
-      → (n, x, y) ≡ appended Transmit kinds k m u v → a ≡ answerTo (Appended Transmit) n → (a, x, y) ≡ lastOutcome k v kinds m t r u
-  unfolding lastOutcome
-  last-first a n x y e o g =
-      rw e (ap (λ (b : Answer). (b, x, y)) g ∙ ap (λ (z : ℕ × Uses × List ℕ). (answerTo (Appended Transmit) (z .0), z .1, z .2)) o)
+  pub last-tail : (a : Answer) (n : ℕ) (x : Uses) (y : List ℕ) (z : Tail) (s : Side) → z ≡ tailAt (word m) t r k → z ≡ Of s
+      → (n, x, y) ≡ appended s kinds k m u v → a ≡ answerTo (Appended s) n → (a, x, y) ≡ lastOutcome k v kinds m t r u
+  unfolding lastOutcome tailAt
+  last-tail a n x y z s e f o g =
+      ap (λ (b : Answer). (b, x, y)) g
+      ∙ ap (λ (w : ℕ × Uses × List ℕ). (answerTo (Appended s) (w .0), w .1, w .2)) o
+      ∙ of-at (isLast (word m) t k) (isLast (word m) r k) s (λ (i : Side). appendOutcome i kinds k m u v) _ (sym f ∙ e)
 
-  pub last-second : (a : Answer) (n : ℕ) (x : Uses) (y : List ℕ) → isLast (word m) t k ≡ false → isLast (word m) r k ≡ true
-      → (n, x, y) ≡ appended Receive kinds k m u v → a ≡ answerTo (Appended Receive) n → (a, x, y) ≡ lastOutcome k v kinds m t r u
-  unfolding lastOutcome
-  last-second a n x y d e o g =
-      rw (d, e) (ap (λ (b : Answer). (b, x, y)) g ∙ ap (λ (z : ℕ × Uses × List ℕ). (answerTo (Appended Receive) (z .0), z .1, z .2)) o)
-
-  pub last-none : isLast (word m) t k ≡ false → isLast (word m) r k ≡ false → (Refused 11, u, m) ≡ lastOutcome k v kinds m t r u
-  unfolding lastOutcome
-  last-none d e = rw (d, e) refl
+  pub last-nobody : (z : Tail) → z ≡ tailAt (word m) t r k → z ≡ Nobody → (Refused 11, u, m) ≡ lastOutcome k v kinds m t r u
+  unfolding lastOutcome tailAt
+  last-nobody z e f = nobody-at (isLast (word m) t k) (isLast (word m) r k) _ _ _ (sym f ∙ e)
 
   -- ---- a word
   pub word-free : (y : List ℕ) → has (u .0) k ≡ false → y ≡ put m k v → (Accepted Plain, u, y) ≡ wordOutcome k v kinds m t r u

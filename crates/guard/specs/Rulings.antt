@@ -3,8 +3,10 @@
 --     Ruling                 a result, and whether the chain has still to be judged
 --     headRuling, registerRuling   HDP, and any register, without the tables
 --     handedOver, appended   a chain that is judged and, without fault, taken; and its address stored in word k
+--     tailAt                 the side whose last descriptor begins at a word
 --     kindNumber, kindOutcome      a kind change: 18 to 21, and the kind table
 --     lastOutcome, wordOutcome     a word of descriptor memory: answer, words in use and lengths, descriptor memory
+--     stateFault             1 or 2, from what they read
 -- Assumes nothing: these are definitions.
 use Prim.Native.Nat.{ℕ, _+_}
 use mathlib.Core.Bool.{Bool, true, false, not}
@@ -21,6 +23,8 @@ use Rattle.registers.specs.Rules.{headFault, registerFault, headWritten, writte
 use Rattle.registers.specs.declared.Regs.{Regs}
 use Rattle.chain.specs.Chain.{placeOf, chainOf}
 use Rattle.book.specs.declared.Book.{Book}
+use Rattle.book.specs.Sound.{sound}
+use Rattle.book.specs.World.{fitParts}
 use Rattle.book.specs.HandOver.{Uses, takenFrom}
 use Rattle.guard.specs.declared.Effect.{Effect}
 use Rattle.guard.specs.declared.Effect.the-variants.{Plain, Started, Appended}
@@ -28,6 +32,8 @@ use Rattle.guard.specs.declared.Answer.{Answer}
 use Rattle.guard.specs.declared.Answer.the-variants.{Accepted, Refused}
 use Rattle.guard.specs.declared.Done.{Done}
 use Rattle.guard.specs.declared.Ruling.{Ruling}
+use Rattle.guard.specs.declared.Tail.{Tail}
+use Rattle.guard.specs.declared.Tail.the-variants.{Of, Nobody}
 use Rattle.guard.specs.Answers.{refusedDone, acceptedDone, ruled}
 use Rattle.guard.specs.Judges.{isLast}
 use Rattle.guard.specs.Guard.{inReception}
@@ -78,6 +84,9 @@ appendOutcome side kinds k m u p =
     let o = appended side kinds k m u p in
     (answerTo (Appended side) (o .0), o .1, o .2)
 
+unfoldable pub tailAt : (ℕ → ℕ) → ℕ → ℕ → ℕ → Tail
+tailAt w t r k = pick (isLast w t k) (Of Transmit) (pick (isLast w r k) (Of Receive) Nobody)
+
 unfoldable pub lastOutcome : ℕ → ℕ → List ℕ → List ℕ → ℕ → ℕ → Uses → Worded
 lastOutcome k v kinds m t r u =
     let transmit = appendOutcome Transmit kinds k m u v in
@@ -103,3 +112,6 @@ kindNumber b k w lens kinds =
 unfoldable pub kindOutcome : ℕ → ℕ → (ℕ → ℕ) → List ℕ → List ℕ → ℕ × List ℕ
 kindOutcome b k w lens kinds =
     pick (eqb (kindNumber b k w lens kinds) 0) (0, set kinds b k) (kindNumber b k w lens kinds, kinds)
+
+unfoldable pub stateFault : List ℕ → List ℕ → List ℕ → List ℕ → List ℕ → ℕ
+stateFault m kinds heads used lens = pick (fitParts m kinds) (pick (sound (word m) heads used lens) 0 2) 1

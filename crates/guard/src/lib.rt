@@ -50,13 +50,14 @@ ghost use lib.ListN.{length};
 ghost use Rattle.layout.specs.Layout.{goodPtr};
 ghost use Rattle.words.specs.Word.{word};
 ghost use Rattle.blocks.specs.Room.{touches};
-ghost use Rattle.chain.specs.Chain.{verdictNumber};
+ghost use Rattle.chain.specs.Chain.{verdictOf, verdictNumber};
 ghost use Rattle.registers.specs.Pending.{sideOf};
 ghost use Rattle.registers.specs.Rules.{ackFault, ackWritten, teardownFault, teardownWritten, resetFault, resetWritten, zeroFault};
 ghost use Rattle.book.specs.World.{fitParts, unfit, soundWorld, release};
 ghost use Rattle.guard.specs.Answers.{worldAt, Gives, numberOf, effectOf, numberOfSide, sideNumber, refusedDone, acceptedDone, ruled};
 ghost use Rattle.guard.specs.Judges.{lastOf, isLast, judgeWord, judgeClass, judge};
-ghost use Rattle.guard.specs.Rulings.{answerTo, decided, starting, headRuling, registerRuling, handedOver, appended, lastOutcome, wordOutcome, kindNumber, kindOutcome};
+ghost use Rattle.book.specs.Sound.{sound};
+ghost use Rattle.guard.specs.Rulings.{answerTo, decided, starting, headRuling, registerRuling, handedOver, appended, tailAt, lastOutcome, wordOutcome, kindNumber, kindOutcome, stateFault};
 ghost use Rattle.guard.specs.Guard.{guestWrite, inReception, judgeKind, kindChange};
 
 const HDP_LAST: u8 = HDP + 1;
@@ -89,6 +90,12 @@ pub struct Done {
     pub answer: Answer,
     pub book: Book,
     pub regs: Regs,
+}
+
+// Whose last descriptor a word ends.
+enum Tail {
+    Of(Side),
+    Nobody,
 }
 
 // A result that flags, registers and heads decide, and whether the chain has still to be judged.
@@ -318,6 +325,16 @@ fn refusal(c: Verdict) -> u8
     }
 }
 
+// What is said of the chain from p, over the words in use. Only a call that judges a chain makes the set of words met.
+fn check_used(s: Side, p: u32, m: &[u8], kinds: &[u8], used: &[u8; 2048]) -> Verdict
+    requires { ⌜ length (now m) ≡ 8192 ⌝ }
+    ensures { λ r. ⌜ r ≡ verdictOf s (now (kinds .entry)) (word (now (m .entry))) (now (used .entry)) p .0 ⌝ }
+{
+    let mut met = [0u8; 2048];
+    copy_set(used, &mut met);
+    check_chain(s, m, kinds, &mut met, p)
+}
+
 // The HDP judge's chain, from p: refused by its number, or handed over.
 fn judge_start(
     s: Side,
@@ -326,14 +343,12 @@ fn judge_start(
     kinds: &[u8],
     used: &mut [u8; 2048],
     lens: &mut [u16; 2048],
-    met: &mut [u8; 2048],
 ) -> u8
     requires { ⌜ length (now m) ≡ 8192 ⌝ }
     ensures { λ n. ⌜ (n, (now (used .exit), now (lens .exit)))
         ≡ handedOver s (now (kinds .entry)) (word (now (m .entry))) (now (used .entry), now (lens .entry)) p ⌝ }
 {
-    copy_set(used, met);
-    let c = check_chain(s, m, kinds, met, p);
+    let c = check_used(s, p, m, kinds, used);
     let Verdict::Good = c else {
         return refusal(c);
     };
@@ -350,14 +365,12 @@ fn judge_append(
     kinds: &[u8],
     used: &mut [u8; 2048],
     lens: &mut [u16; 2048],
-    met: &mut [u8; 2048],
 ) -> u8
     requires { ⌜ (length (now m) ≡ 8192) × (k < 2048) ⌝ }
     ensures { λ n. ⌜ (n, (now (used .exit), now (lens .exit)), now (m .exit))
         ≡ appended s (now (kinds .entry)) k (now (m .entry)) (now (used .entry), now (lens .entry)) p ⌝ }
 {
-    copy_set(used, met);
-    let c = check_chain(s, m, kinds, met, p);
+    let c = check_used(s, p, m, kinds, used);
     let Verdict::Good = c else {
         return refusal(c);
     };
@@ -405,6 +418,48 @@ fn is_fit(m: &[u8], kinds: &[u8]) -> bool
     kinds_fit(kinds)
 }
 
+// Whether the book is sound: 2 where not. The scratch set lives as long as the test.
+fn is_sound_book(m: &[u8], heads: [u32; 2], used: &[u8; 2048], lens: &[u16; 2048]) -> bool
+    requires { ⌜ length (now m) ≡ 8192 ⌝ }
+    ensures { λ r. ⌜ r ≡ sound (word (now (m .entry))) heads (now (used .entry)) (now (lens .entry)) ⌝ }
+{
+    let mut met = [0u8; 2048];
+    is_sound(m, heads, used, lens, &mut met)
+}
+
+// 1 or 2, by which every call on this state is refused, or 0.
+pub fn state_fault(
+    m: &[u8],
+    kinds: &[u8],
+    heads: [u32; 2],
+    used: &[u8; 2048],
+    lens: &[u16; 2048],
+) -> u8
+    ensures { λ n. ⌜ n ≡ stateFault (now (m .entry)) (now (kinds .entry)) heads (now (used .entry)) (now (lens .entry)) ⌝ }
+{
+    if !is_fit(m, kinds) {
+        return 1;
+    }
+    if !is_sound_book(m, heads, used, lens) {
+        return 2;
+    }
+    0
+}
+
+// The queue, by its head t or r, whose last descriptor begins at word k.
+fn tail_at(m: &[u8], t: u32, r: u32, k: usize) -> Tail
+    requires { ⌜ (length (now m) ≡ 8192) × (k < 2048) ⌝ }
+    ensures { λ x. ⌜ x ≡ tailAt (word (now (m .entry))) t r k ⌝ }
+{
+    if is_last(m, t, k) {
+        return Tail::Of(Side::Transmit);
+    }
+    if is_last(m, r, k) {
+        return Tail::Of(Side::Receive);
+    }
+    Tail::Nobody
+}
+
 // A word in use, now 0 and written nonzero: an append to the queue whose last descriptor it ends, else 11. t and r are the heads.
 fn judge_last(
     k: usize,
@@ -415,23 +470,17 @@ fn judge_last(
     r: u32,
     used: &mut [u8; 2048],
     lens: &mut [u16; 2048],
-    met: &mut [u8; 2048],
 ) -> Answer
     requires { ⌜ (length (now m) ≡ 8192) × (k < 2048) ⌝ }
     ensures { λ a. ⌜ (a, (now (used .exit), now (lens .exit)), now (m .exit))
         ≡ lastOutcome k v (now (kinds .entry)) (now (m .entry)) t r (now (used .entry), now (lens .entry)) ⌝ }
 {
-    if is_last(m, t, k) {
-        let s = Side::Transmit;
-        let n = judge_append(s, k, v, m, kinds, used, lens, met);
-        return answer_to(Effect::Appended(s), n);
-    }
-    if is_last(m, r, k) {
-        let s = Side::Receive;
-        let n = judge_append(s, k, v, m, kinds, used, lens, met);
-        return answer_to(Effect::Appended(s), n);
-    }
-    Answer::Refused(11)
+    let x = tail_at(m, t, r, k);
+    let Tail::Of(s) = x else {
+        return Answer::Refused(11);
+    };
+    let n = judge_append(s, k, v, m, kinds, used, lens);
+    answer_to(Effect::Appended(s), n)
 }
 
 // Word k of descriptor memory.
@@ -444,7 +493,6 @@ fn judge_word(
     r: u32,
     used: &mut [u8; 2048],
     lens: &mut [u16; 2048],
-    met: &mut [u8; 2048],
 ) -> Answer
     requires { ⌜ (length (now m) ≡ 8192) × (k < 2048) ⌝ }
     ensures { λ a. ⌜ (a, (now (used .exit), now (lens .exit)), now (m .exit))
@@ -460,7 +508,7 @@ fn judge_word(
     if v == 0 {
         return Answer::Refused(11);
     }
-    judge_last(k, v, m, kinds, t, r, used, lens, met)
+    judge_last(k, v, m, kinds, t, r, used, lens)
 }
 
 // A register of class n, with its chain.
@@ -473,7 +521,6 @@ fn judge_class(
     r: Regs,
     used: &mut [u8; 2048],
     lens: &mut [u16; 2048],
-    met: &mut [u8; 2048],
 ) -> Done
     requires { ⌜ length (now m) ≡ 8192 ⌝ }
     ensures { λ d. ⌜ Gives (judgeClass n v (worldAt (now (m .entry)) (now (kinds .entry)) b (now (used .entry)) (now (lens .entry)) r)) d
@@ -484,7 +531,7 @@ fn judge_class(
         let d = x.done;
         return d;
     }
-    let k = judge_start(side_of(n as usize), v, m, kinds, used, lens, met);
+    let k = judge_start(side_of(n as usize), v, m, kinds, used, lens);
     if k != 0 {
         return refuse(k, b, r);
     }
@@ -502,14 +549,13 @@ fn judge_memory(
     r: Regs,
     used: &mut [u8; 2048],
     lens: &mut [u16; 2048],
-    met: &mut [u8; 2048],
 ) -> Done
     requires { ⌜ (length (now m) ≡ 8192) × (k < 2048) ⌝ }
     ensures { λ d. ⌜ Gives (judgeWord k v (worldAt (now (m .entry)) (now (kinds .entry)) b (now (used .entry)) (now (lens .entry)) r)) d
         (now (m .exit)) (now (kinds .entry)) (now (used .exit)) (now (lens .exit)) ⌝ }
 {
     let heads = b.heads;
-    let a = judge_word(k, v, m, kinds, heads[0], heads[1], used, lens, met);
+    let a = judge_word(k, v, m, kinds, heads[0], heads[1], used, lens);
     Done {
         answer: a,
         book: b,
@@ -527,7 +573,6 @@ fn judge_address(
     r: Regs,
     used: &mut [u8; 2048],
     lens: &mut [u16; 2048],
-    met: &mut [u8; 2048],
 ) -> Done
     requires { ⌜ length (now m) ≡ 8192 ⌝ }
     ensures { λ d. ⌜ Gives (judge a v (worldAt (now (m .entry)) (now (kinds .entry)) b (now (used .entry)) (now (lens .entry)) r)) d
@@ -537,7 +582,7 @@ fn judge_address(
         return refuse(3, b, r);
     }
     if !is_descriptor(a) {
-        return judge_class(class_at(a), v, m, kinds, b, r, used, lens, met);
+        return judge_class(class_at(a), v, m, kinds, b, r, used, lens);
     }
     judge_memory(
         ((a - DESC_FIRST) / 4) as usize,
@@ -548,7 +593,6 @@ fn judge_address(
         r,
         used,
         lens,
-        met,
     )
 }
 
@@ -562,14 +606,13 @@ fn write_released(
     r: Regs,
     used: &mut [u8; 2048],
     lens: &mut [u16; 2048],
-    met: &mut [u8; 2048],
 ) -> Done
     requires { ⌜ length (now m) ≡ 8192 ⌝ }
     ensures { λ d. ⌜ Gives (judge a v (release (worldAt (now (m .entry)) (now (kinds .entry)) b (now (used .entry)) (now (lens .entry)) r))) d
         (now (m .exit)) (now (kinds .entry)) (now (used .exit)) (now (lens .exit)) ⌝ }
 {
     let c = release_book(m, b, r, used, lens);
-    judge_address(a, v, m, kinds, c, r, used, lens, met)
+    judge_address(a, v, m, kinds, c, r, used, lens)
 }
 
 // A guest write on a state that is known to be fit and sound: what a caller has who started fresh and changed the book through the
@@ -589,8 +632,7 @@ pub fn guest_write_sound(
     ensures { λ d. ⌜ Gives (guestWrite a v (worldAt (now (m .entry)) (now (kinds .entry)) b (now (used .entry)) (now (lens .entry)) r)) d
         (now (m .exit)) (now (kinds .entry)) (now (used .exit)) (now (lens .exit)) ⌝ }
 {
-    let mut met = [0u8; 2048];
-    write_released(a, v, m, kinds, b, r, used, lens, &mut met)
+    write_released(a, v, m, kinds, b, r, used, lens)
 }
 
 // A guest write of v to address a, on any state: unfit 1, unsound 2.
@@ -607,15 +649,12 @@ pub fn guest_write(
     ensures { λ d. ⌜ Gives (guestWrite a v (worldAt (now (m .entry)) (now (kinds .entry)) b (now (used .entry)) (now (lens .entry)) r)) d
         (now (m .exit)) (now (kinds .entry)) (now (used .exit)) (now (lens .exit)) ⌝ }
 {
-    if !is_fit(m, kinds) {
-        return refuse(1, b, r);
-    }
-    let mut met = [0u8; 2048];
     let heads = b.heads;
-    if !is_sound(m, heads, used, lens, &mut met) {
-        return refuse(2, b, r);
+    let n = state_fault(m, kinds, heads, used, lens);
+    if n != 0 {
+        return refuse(n, b, r);
     }
-    write_released(a, v, m, kinds, b, r, used, lens, &mut met)
+    write_released(a, v, m, kinds, b, r, used, lens)
 }
 
 // Whether a receive buffer of the recorded length n, whose descriptor begins at word i, touches block b.
@@ -746,13 +785,10 @@ pub fn kind_change(
     ensures { λ d. ⌜ Gives (kindChange block kind (worldAt (now (m .entry)) (now (kinds .entry)) b (now (used .entry)) (now (lens .entry)) r)) d
         (now (m .entry)) (now (kinds .exit)) (now (used .exit)) (now (lens .exit)) ⌝ }
 {
-    if !is_fit(m, kinds) {
-        return refuse(1, b, r);
-    }
-    let mut met = [0u8; 2048];
     let heads = b.heads;
-    if !is_sound(m, heads, used, lens, &mut met) {
-        return refuse(2, b, r);
+    let n = state_fault(m, kinds, heads, used, lens);
+    if n != 0 {
+        return refuse(n, b, r);
     }
     change_released(block, kind, m, kinds, b, r, used, lens)
 }

@@ -56,7 +56,7 @@ pub sending-owning : (t : ℕ) (c : List ℕ) (x : Closing) → t ≡ 6 → x �
 unfolding sendingBy
 sending-owning t c x e h = sending-as t 6 c (S.Owning x) e (ap S.Owning h)
 
-pub sending-done : (t : ℕ) (c : List ℕ) → t ≢ 0 → t ≢ 1 → t ≢ 2 → t ≢ 3 → t ≢ 4 → t ≢ 5 → t ≢ 6 → S.Done (at c 21) ≡ sendingBy t c
+pub sending-done : (t : ℕ) (c : List ℕ) → t ≢ 0 → t ≢ 1 → t ≢ 2 → t ≢ 3 → t ≢ 4 → t ≢ 5 → t ≢ 6 → S.Done (record { next = at c 21 }) ≡ sendingBy t c
 unfolding sendingBy
 sending-done t c n0 n1 n2 n3 n4 n5 n6 = rw (ne-eqb t 0 n0, ne-eqb t 1 n1, ne-eqb t 2 n2, ne-eqb t 3 n3, ne-eqb t 4 n4, ne-eqb t 5 n5, ne-eqb t 6 n6) refl
 
@@ -92,7 +92,7 @@ pub receiving-first : (t : ℕ) (c : List ℕ) (x : Stored) → t ≡ 6 → x �
 unfolding receivingBy
 receiving-first t c x e h = receiving-as t 6 c (R.First x) e (ap R.First h)
 
-pub receiving-done : (t : ℕ) (c : List ℕ) → t ≢ 0 → t ≢ 1 → t ≢ 2 → t ≢ 3 → t ≢ 4 → t ≢ 5 → t ≢ 6 → R.Done (at c 30) ≡ receivingBy t c
+pub receiving-done : (t : ℕ) (c : List ℕ) → t ≢ 0 → t ≢ 1 → t ≢ 2 → t ≢ 3 → t ≢ 4 → t ≢ 5 → t ≢ 6 → R.Done (record { next = at c 30 }) ≡ receivingBy t c
 unfolding receivingBy
 receiving-done t c n0 n1 n2 n3 n4 n5 n6 = rw (ne-eqb t 0 n0, ne-eqb t 1 n1, ne-eqb t 2 n2, ne-eqb t 3 n3, ne-eqb t 4 n4, ne-eqb t 5 n5, ne-eqb t 6 n6) refl
 

@@ -90,7 +90,7 @@ sendingBy t c =
     (pick (eqb t 3) (S.Moving (readingIn c))
     (pick (eqb t 4) (S.Ended (finishedIn c))
     (pick (eqb t 5) (S.Marking (closingIn c))
-    (pick (eqb t 6) (S.Owning (closingIn c)) (S.Done (at c 21))))))))
+    (pick (eqb t 6) (S.Owning (closingIn c)) (S.Done (record { next = at c 21 }))))))))
 
 unfoldable pub frameIn : List ℕ → Frame
 frameIn c = record { first = at c 24; stored = at c 25; left = at c 26 }
@@ -112,7 +112,7 @@ receivingBy t c =
     (pick (eqb t 3) (R.Moving (storingIn c))
     (pick (eqb t 4) (R.Ended (filledIn c))
     (pick (eqb t 5) (R.Last (storedIn c))
-    (pick (eqb t 6) (R.First (storedIn c)) (R.Done (at c 30))))))))
+    (pick (eqb t 6) (R.First (storedIn c)) (R.Done (record { next = at c 30 }))))))))
 
 unfoldable pub controllerIn : List ℕ → List ℕ → Controller
 controllerIn c t = record {
@@ -135,7 +135,7 @@ sendingWords (S.Moving r) = 3 ∷ r .sop ∷ r .word3 ∷ r .sum ∷ r .at ∷ r
 sendingWords (S.Ended e) = 4 ∷ e .sop ∷ e .word3 ∷ e .sum ∷ 0 ∷ 0 ∷ e .next ∷ flagWord (e .eop) ∷ []
 sendingWords (S.Marking e) = 5 ∷ e .sop ∷ e .word3 ∷ 0 ∷ 0 ∷ 0 ∷ e .next ∷ 0 ∷ []
 sendingWords (S.Owning e) = 6 ∷ e .sop ∷ e .word3 ∷ 0 ∷ 0 ∷ 0 ∷ e .next ∷ 0 ∷ []
-sendingWords (S.Done n) = 7 ∷ 0 ∷ 0 ∷ 0 ∷ 0 ∷ 0 ∷ n ∷ 0 ∷ []
+sendingWords (S.Done e) = 7 ∷ 0 ∷ 0 ∷ 0 ∷ 0 ∷ 0 ∷ e .next ∷ 0 ∷ []
 
 abbrev pub receivingWords : Receiving → List ℕ
 receivingWords R.Idle = 0 ∷ 0 ∷ 0 ∷ 0 ∷ 0 ∷ 0 ∷ 0 ∷ 0 ∷ 0 ∷ []
@@ -145,7 +145,7 @@ receivingWords (R.Moving s) = 3 ∷ s .first ∷ s .stored ∷ s .left ∷ s .at
 receivingWords (R.Ended e) = 4 ∷ e .first ∷ e .stored ∷ e .left ∷ 0 ∷ e .room ∷ e .here ∷ 0 ∷ 0 ∷ []
 receivingWords (R.Last s) = 5 ∷ s .first ∷ s .stored ∷ 0 ∷ 0 ∷ 0 ∷ s .here ∷ s .next ∷ flagWord (s .overrun) ∷ []
 receivingWords (R.First s) = 6 ∷ s .first ∷ s .stored ∷ 0 ∷ 0 ∷ 0 ∷ 0 ∷ s .next ∷ flagWord (s .overrun) ∷ []
-receivingWords (R.Done n) = 7 ∷ 0 ∷ 0 ∷ 0 ∷ 0 ∷ 0 ∷ 0 ∷ n ∷ 0 ∷ []
+receivingWords (R.Done e) = 7 ∷ 0 ∷ 0 ∷ 0 ∷ 0 ∷ 0 ∷ 0 ∷ e .next ∷ 0 ∷ []
 
 abbrev pub burstWords : Burst → List ℕ
 burstWords Quiet = 0 ∷ 0 ∷ 0 ∷ []

@@ -11,6 +11,7 @@ use controller::Engine;
 use controller::Filled;
 use controller::Finished;
 use controller::Frame;
+use controller::Leaving;
 use controller::Packet;
 use controller::Reading;
 use controller::Receiving;
@@ -160,7 +161,7 @@ fn read_sending(tag: u32, c: &[u32; 32]) -> Sending
         4 => Sending::Ended(read_finished(c)),
         5 => Sending::Marking(read_closing(c)),
         6 => Sending::Owning(read_closing(c)),
-        _ => Sending::Done(c[21]),
+        _ => Sending::Done(Leaving { next: c[21] }),
     }
 }
 
@@ -225,7 +226,7 @@ fn read_receiving(tag: u32, c: &[u32; 32]) -> Receiving
         4 => Receiving::Ended(read_filled(c)),
         5 => Receiving::Last(read_stored(c)),
         6 => Receiving::First(read_stored(c)),
-        _ => Receiving::Done(c[30]),
+        _ => Receiving::Done(Leaving { next: c[30] }),
     }
 }
 
@@ -272,7 +273,7 @@ fn sending_words(s: Sending) -> [u32; 8]
         Sending::Ended(e) => [4, e.sop, e.word3, e.sum, 0, 0, e.next, flag_word(e.eop)],
         Sending::Marking(e) => [5, e.sop, e.word3, 0, 0, 0, e.next, 0],
         Sending::Owning(e) => [6, e.sop, e.word3, 0, 0, 0, e.next, 0],
-        Sending::Done(n) => [7, 0, 0, 0, 0, 0, n, 0],
+        Sending::Done(e) => [7, 0, 0, 0, 0, 0, e.next, 0],
     }
 }
 
@@ -308,7 +309,7 @@ fn receiving_words(s: Receiving) -> [u32; 9]
             l.next,
             flag_word(l.overrun),
         ],
-        Receiving::Done(n) => [7, 0, 0, 0, 0, 0, 0, n, 0],
+        Receiving::Done(e) => [7, 0, 0, 0, 0, 0, 0, e.next, 0],
     }
 }
 

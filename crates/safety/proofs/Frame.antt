@@ -117,7 +117,7 @@ module _ (w v : ℕ → ℕ) (L : List ℕ) (a : All (Same3 w v) L) where
       let b = spot-words (t .spot) in
       record { spot = spot-same (t .spot); todo = sendable-same K w v Start (t .spot .rs) (b .1) (t .todo); last = ap eop (b .0 .2) ∙ t .last; clean = ap eoq (b .0 .2) ∙ t .clean; latch = t .latch }
   tx-same K h n (S.Owning c) t = owned-new (Sendable K w Start) (Sendable K v Start) t (λ k. sendable-same K w v Start (t .spot .rs) k (t .todo))
-  tx-same K h n (S.Done l) t = through-map (Sendable K w Start) (Sendable K v Start) L h n l (sendable-same K w v Start L a) t
+  tx-same K h n (S.Done l) t = through-map (Sendable K w Start) (Sendable K v Start) L h n (l .next) (sendable-same K w v Start L a) t
 
   module _ (lens new : List ℕ) (b : All (SameLength lens new) L) where
     -- the recorded lengths of the descriptor of a place, and of those behind it
@@ -142,7 +142,7 @@ module _ (w v : ℕ → ℕ) (L : List ℕ) (a : All (Same3 w v) L) where
     rx-new h n (R.First s) t =
         let l = spot-lengths (t .owned .spot) .1 in
         record { owned = owned-new (Fillable lens w) (Fillable new v) (t .owned) (λ k. fillable-new lens new w v (t .owned .spot .rs) l k (t .owned .todo)); short = t .short }
-    rx-new h n (R.Done l) t = through-map (Fillable lens w) (Fillable new v) L h n l (fillable-new lens new w v L b a) t
+    rx-new h n (R.Done l) t = through-map (Fillable lens w) (Fillable new v) L h n (l .next) (fillable-new lens new w v L b a) t
 
   pub rx-same : (lens : List ℕ) (h n : ℕ) (ph : Receiving) → RxInv lens w L h n ph → RxInv lens v L h n ph
   rx-same lens h n ph t = rx-new lens lens (lengths-same lens L) h n ph t

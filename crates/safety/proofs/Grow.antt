@@ -109,7 +109,7 @@ module _ (K : List ℕ) (w : ℕ → ℕ) (L es : List ℕ) (n : L ≢ []) (e : 
   tx-more h m (S.Marking c) t =
       record { spot = spot-more w L es n (t .spot); todo = sendable-more K w Start (t .spot .rs) es refl e (t .todo); last = t .last; clean = t .clean; latch = latched-more (t .spot .rs) es (c .next) (t .latch) }
   tx-more h m (S.Owning c) t = owned-more w L es n (Sendable K w Start) (c .sop) h m (c .next) (λ rs. sendable-more K w Start rs es refl e) t
-  tx-more h m (S.Done l) t = through-more w L es n (Sendable K w Start) h m l (sendable-more K w Start L es refl e) t
+  tx-more h m (S.Done l) t = through-more w L es n (Sendable K w Start) h m (l .next) (sendable-more K w Start L es refl e) t
 
 -- ---- the receive engine
 
@@ -125,4 +125,4 @@ module _ (lens : List ℕ) (w : ℕ → ℕ) (L es : List ℕ) (n : L ≢ []) (e
   rx-more h m (R.Ended x) t = record { taken = taken-more (t .taken); short = t .short; few = t .few }
   rx-more h m (R.Last s) t = record { taken = taken-more (t .taken); short = t .short; few = t .few; latch = latched-more (t .taken .spot .rs) es (s .next) (t .latch) }
   rx-more h m (R.First s) t = record { owned = owned-more w L es n (Fillable lens w) (s .first) h m (s .next) (λ rs. fillable-more lens w rs es e) (t .owned); short = t .short }
-  rx-more h m (R.Done l) t = through-more w L es n (Fillable lens w) h m l (fillable-more lens w L es e) t
+  rx-more h m (R.Done l) t = through-more w L es n (Fillable lens w) h m (l .next) (fillable-more lens w L es e) t

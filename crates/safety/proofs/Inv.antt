@@ -163,7 +163,7 @@ TxInv K w L h n (S.Moving r) = AtMoving K w L h n r
 TxInv K w L h n (S.Ended e) = Fetched K w L h n (e .sop) (e .word3) (e .sum) (e .next) (e .eop)
 TxInv K w L h n (S.Marking c) = AtMarking K w L h n c
 TxInv K w L h n (S.Owning c) = Owned (Sendable K w Start) w L (c .sop) h n (c .next)
-TxInv K w L h n (S.Done l) = Through (Sendable K w Start) L h n l
+TxInv K w L h n (S.Done l) = Through (Sendable K w Start) L h n (l .next)
 
 abbrev pub idleTx : Sending → Bool
 idleTx S.Idle = true
@@ -223,7 +223,7 @@ RxInv lens w L h n (R.Moving s) = AtStoring lens w L h n s
 RxInv lens w L h n (R.Ended e) = AtFilled lens w L h n e
 RxInv lens w L h n (R.Last s) = AtLast lens w L h n s
 RxInv lens w L h n (R.First s) = AtFirst lens w L h n s
-RxInv lens w L h n (R.Done l) = Through (Fillable lens w) L h n l
+RxInv lens w L h n (R.Done l) = Through (Fillable lens w) L h n (l .next)
 
 abbrev pub idleRx : Receiving → Bool
 idleRx R.Idle = true

@@ -92,7 +92,7 @@ module _ (K : List ℕ) (b k : ℕ) (own : permits Transmit k ≡ true) (w : ℕ
     last = t .last;
     latch = t .latch;
   }
-  tx-kind L h n (S.Done l) t = through-map (Sendable K w Start) (Sendable (set K b k) w Start) L h n l (sendable-kind Start L refl) t
+  tx-kind L h n (S.Done l) t = through-map (Sendable K w Start) (Sendable (set K b k) w Start) L h n (l .next) (sendable-kind Start L refl) t
 
 -- ---- what an accepted kind change has asked
 

@@ -311,8 +311,8 @@ first-fine v g s t i =
     let good : goodPtr (s .first) ≡ true = ap goodPtr (first .0) ∙ goodPtr-addr f (first .1) in
     let here : wordOf (s .first) ≡ f = ap wordOf (first .0) ∙ wordOf-addr f in
     rw (le-ltb lengthMax (s .stored) (i .short), good, here)
-    (wentR v m′ h (v .r .cp) (Done (s .next)) Quiet (s .stored)
-    (touchR v g [] f (top .fs) m′ only (marked-fits mark f m small (g .held .fit)) (setRegs h (v .r .cp) (v .r)) (top .is) (Done (s .next)) (added (v .received) (s .stored)) (turn-move t h false (λ m x. clash x refl))
+    (wentR v m′ h (v .r .cp) (Done (record { next = s .next })) Quiet (s .stored)
+    (touchR v g [] f (top .fs) m′ only (marked-fits mark f m small (g .held .fit)) (setRegs h (v .r .cp) (v .r)) (top .is) (Done (record { next = s .next })) (added (v .received) (s .stored)) (turn-move t h false (λ m x. clash x refl))
     (λ k. let there : word m′ (f + 3) ≡ mark x = marked-reads mark f m small (g .held .fit) (first .1) in
     let r = owned-done (Fillable lens w) (Fillable lens (word m′)) w (word m′) (leftR v) (s .first) h (v .r .stage) (s .next) o f (top .fs) (top .is) (k .behind)
     (ap eop there ∙ eop-firstMark (s .stored) (s .overrun) x short, ap eoq there ∙ eoq-firstMark (s .stored) (s .overrun) x short)
@@ -400,7 +400,7 @@ from-phase v g (Moving s) t i = moving-fine v g s t i
 from-phase v g (Ended e) t i = ended-fine v g e t i
 from-phase v g (Last s) t i = last-fine v g s t i
 from-phase v g (First s) t i = first-fine v g s t i
-from-phase v g (Done l) t i = done-fine v g l t i
+from-phase v g (Done l) t i = done-fine v g (l .next) t i
 
 pub receive-fine : (v : View) → Good v → Fine v (receiveStep (ctlOf v) (v .store .mem))
 unfolding receiveStep

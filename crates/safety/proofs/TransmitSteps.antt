@@ -316,8 +316,8 @@ owning-fine v g c t o =
     let good : goodPtr (c .sop) ≡ true = ap goodPtr (first .0) ∙ goodPtr-addr f (first .1) in
     let here : wordOf (c .sop) ≡ f = ap wordOf (first .0) ∙ wordOf-addr f in
     rw (good, here)
-    (wentT v m′ h (v .t .cp) (Done (c .next)) Quiet (octetsOf (c .word3))
-    (touchT v g [] f (top .fs) m′ only (marked-fits ownerMark f m small (g .held .fit)) (setRegs h (v .t .cp) (v .t)) (top .is) (Done (c .next)) (added (v .sent) (octetsOf (c .word3))) (turn-move t h false (λ m x. clash x refl))
+    (wentT v m′ h (v .t .cp) (Done (record { next = c .next })) Quiet (octetsOf (c .word3))
+    (touchT v g [] f (top .fs) m′ only (marked-fits ownerMark f m small (g .held .fit)) (setRegs h (v .t .cp) (v .t)) (top .is) (Done (record { next = c .next })) (added (v .sent) (octetsOf (c .word3))) (turn-move t h false (λ m x. clash x refl))
     (λ k. let there : word m′ (f + 3) ≡ ownerMark x = marked-reads ownerMark f m small (g .held .fit) (first .1) in
     let r = owned-done (Sendable K w Start) (Sendable K (word m′) Start) w (word m′) (leftT v) (c .sop) h (v .t .stage) (c .next) o f (top .fs) (top .is) (k .behind)
     (ap eop there ∙ eop-ownerMark x, ap eoq there ∙ eoq-ownerMark x)
@@ -396,7 +396,7 @@ from-phase v g (Moving r) t i = moving-fine v g r t i
 from-phase v g (Ended e) t i = ended-fine v g e t i
 from-phase v g (Marking c) t i = marking-fine v g c t i
 from-phase v g (Owning c) t i = owning-fine v g c t i
-from-phase v g (Done l) t i = done-fine v g l t i
+from-phase v g (Done l) t i = done-fine v g (l .next) t i
 
 pub transmit-fine : (v : View) → Good v → Fine v (transmitStep (ctlOf v) (v .store .mem))
 unfolding transmitStep

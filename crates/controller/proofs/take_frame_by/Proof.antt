@@ -1,12 +1,11 @@
 -- `controller::take_frame_by` meets its contract: each test picks its case. Assumes nothing.
 use mathlib.Core.Path.{_∙_, sym, ap}
 use Prim.Native.Nat.{ℕ}
-use borrow.Author.Tests.{eq-eqb, ne-eqb, le-leb, lt-leb}
 use Rattle.layout.proofs.ChoiceLaws.{yes-of, no-of}
 use Rattle.controller.specs.declared.Controller.{Controller}
 use Rattle.controller.specs.declared.Receiving.the-variants.{Fetch}
-use Rattle.controller.specs.Controller.{framed, setRx, frameOf}
-use Rattle.controller.proofs.EntryLaws.{frame-taken}
+use Rattle.controller.specs.Controller.{framed, setRx}
+use Rattle.controller.proofs.EntryLaws.{frame-undefined, frame-empty, frame-long, frame-headless, frame-busy, frame-held, frame-taken}
 use borrow.Author.Needs.{needs}
 use Rattle.controller.proofs.take_frame_by.Statement.{statement}
 use Rattle.controller.proofs.take_frame_by.Tie as tie
@@ -15,22 +14,23 @@ answer-frame-requires : tie.Need-answer-frame-requires
 answer-frame-requires c κs = search needs
 
 returns : tie.Need-returns
-unfolding frameOf
-returns c = simp (c .before .if1 .taken) (c .answer-frame .ensures)
+returns c = let a = c .before .before .args in c .answer-frame .ensures ∙ sym (frame-undefined (a .n) (a .c) (c .before .if1 .taken))
 
 answer-frame-requires-2 : tie.Need-answer-frame-requires-2
 answer-frame-requires-2 c κs = search needs
 
 returns-2 : tie.Need-returns-2
-unfolding frameOf
-returns-2 c = simp (c .before .before .if1 .left, lt-leb _ _ (c .before .if2 .taken)) (c .answer-frame2 .ensures)
+returns-2 c =
+    let a = c .before .before .before .args in
+    c .answer-frame2 .ensures ∙ sym (frame-empty (a .n) (a .c) (c .before .before .if1 .left) (c .before .if2 .taken))
 
 answer-frame-requires-3 : tie.Need-answer-frame-requires-3
 answer-frame-requires-3 c κs = search needs
 
 returns-3 : tie.Need-returns-3
-unfolding frameOf
-returns-3 c = simp (c .before .before .before .if1 .left, le-leb _ _ (c .before .before .if2 .left), lt-leb _ _ (c .before .if3 .taken)) (c .answer-frame3 .ensures)
+returns-3 c =
+    let a = c .before .before .before .before .args in
+    c .answer-frame3 .ensures ∙ sym (frame-long (a .n) (a .c) (c .before .before .before .if1 .left) (c .before .before .if2 .left) (c .before .if3 .taken))
 
 hdp-of-requires : tie.Need-hdp-of-requires
 hdp-of-requires c κs = search needs
@@ -39,8 +39,10 @@ answer-frame-requires-4 : tie.Need-answer-frame-requires-4
 answer-frame-requires-4 c κs = search needs
 
 returns-4 : tie.Need-returns-4
-unfolding frameOf
-returns-4 c = simp (c .before .before .before .before .before .if1 .left, le-leb _ _ (c .before .before .before .before .if2 .left), le-leb _ _ (c .before .before .before .if3 .left), sym (c .before .before .hdp-of .ensures), eq-eqb _ _ (c .before .if4 .taken)) (c .answer-frame4 .ensures)
+returns-4 c =
+    let a = c .before .before .before .before .before .before .args in
+    let none = sym (c .before .before .hdp-of .ensures) ∙ c .before .if4 .taken in
+    c .answer-frame4 .ensures ∙ sym (frame-headless (a .n) (a .c) (c .before .before .before .before .before .if1 .left) (c .before .before .before .before .if2 .left) (c .before .before .before .if3 .left) none)
 
 is-waiting-requires : tie.Need-is-waiting-requires
 is-waiting-requires c κs = search needs
@@ -49,8 +51,10 @@ answer-frame-requires-5 : tie.Need-answer-frame-requires-5
 answer-frame-requires-5 c κs = search needs
 
 returns-5 : tie.Need-returns-5
-unfolding frameOf
-returns-5 c = simp (c .before .before .before .before .before .before .before .if1 .left, le-leb _ _ (c .before .before .before .before .before .before .if2 .left), le-leb _ _ (c .before .before .before .before .before .if3 .left), sym (c .before .before .before .before .hdp-of .ensures), ne-eqb _ _ (c .before .before .before .if4 .left), no-of (c .before .before .is-waiting .ensures) (c .before .if5 .taken)) (c .answer-frame5 .ensures)
+returns-5 c =
+    let a = c .before .before .before .before .before .before .before .before .args in
+    let busy = no-of (c .before .before .is-waiting .ensures) (c .before .if5 .taken) in
+    c .answer-frame5 .ensures ∙ sym (frame-busy (a .n) (a .c) (c .before .before .before .before .before .before .before .if1 .left) (c .before .before .before .before .before .before .if2 .left) (c .before .before .before .before .before .if3 .left) (λ e. c .before .before .before .if4 .left (c .before .before .before .before .hdp-of .ensures ∙ e)) busy)
 
 is-held-requires : tie.Need-is-held-requires
 is-held-requires c κs = search needs
@@ -59,8 +63,11 @@ answer-frame-requires-6 : tie.Need-answer-frame-requires-6
 answer-frame-requires-6 c κs = search needs
 
 returns-6 : tie.Need-returns-6
-unfolding frameOf
-returns-6 c = simp (c .before .before .before .before .before .before .before .before .before .if1 .left, le-leb _ _ (c .before .before .before .before .before .before .before .before .if2 .left), le-leb _ _ (c .before .before .before .before .before .before .before .if3 .left), sym (c .before .before .before .before .before .before .hdp-of .ensures), ne-eqb _ _ (c .before .before .before .before .before .if4 .left), yes-of (c .before .before .before .before .is-waiting .ensures) (c .before .before .before .if5 .left), sym (c .before .before .is-held .ensures) ∙ c .before .if6 .taken) (c .answer-frame6 .ensures)
+returns-6 c =
+    let a = c .before .before .before .before .before .before .before .before .before .before .args in
+    let waits = yes-of (c .before .before .before .before .is-waiting .ensures) (c .before .before .before .if5 .left) in
+    let stopped = sym (c .before .before .is-held .ensures) ∙ c .before .if6 .taken in
+    c .answer-frame6 .ensures ∙ sym (frame-held (a .n) (a .c) (c .before .before .before .before .before .before .before .before .before .if1 .left) (c .before .before .before .before .before .before .before .before .if2 .left) (c .before .before .before .before .before .before .before .if3 .left) (λ e. c .before .before .before .before .before .if4 .left (c .before .before .before .before .before .before .hdp-of .ensures ∙ e)) waits stopped)
 
 set-rx-requires : tie.Need-set-rx-requires
 set-rx-requires c κs = search needs

@@ -1,12 +1,11 @@
--- `guard::guest_write`: 1, then 2, then the release and the judge. Assumes nothing.
+-- `guard::guest_write`: 1 or 2, then the release and the judge. Assumes nothing.
+use Rattle.guard.proofs.GivesLaws.{write-refused, write-gives, state-fits, state-size}
 use borrow.Author.Needs.{needs}
-use Rattle.layout.proofs.ChoiceLaws.{yes-of, no-of}
-use Rattle.guard.proofs.GivesLaws.{write-1, write-2, write-gives, fit-size, fit-unfit, sound-world}
 use Rattle.guard.proofs.guest_write.Statement.{statement}
 use Rattle.guard.proofs.guest_write.Tie as tie
 
-is-fit-requires : tie.Need-is-fit-requires
-is-fit-requires c κs = search needs
+state-fault-requires : tie.Need-state-fault-requires
+state-fault-requires c κs = search needs
 
 refuse-requires : tie.Need-refuse-requires
 refuse-requires c κs = search needs
@@ -15,28 +14,16 @@ same-length : tie.Need-same-length
 same-length c = search needs
 
 returns : tie.Need-returns
-returns c = rw (c .refuse .ensures) (write-1 _ _ _ _ _ _ _ _ (no-of (c .before .before .is-fit .ensures) (c .before .if1 .taken)))
+returns c = rw (c .refuse .ensures) (write-refused _ _ _ _ _ _ _ _ _ (c .before .before .state-fault .ensures) (c .before .if1 .taken))
 
-is-sound-requires : tie.Need-is-sound-requires
-is-sound-requires c κs = fit-size _ _ (yes-of (c .before .before .before .before .before .before .is-fit .ensures) (c .before .before .before .before .before .if1 .left))
-
-refuse-requires-2 : tie.Need-refuse-requires-2
-refuse-requires-2 c κs = search needs
+write-released-requires : tie.Need-write-released-requires
+write-released-requires c κs = state-size _ _ _ _ _ _ (c .before .before .before .before .state-fault .ensures) (c .before .before .before .if1 .left)
 
 same-length-2 : tie.Need-same-length-2
 same-length-2 c = search needs
 
 returns-2 : tie.Need-returns-2
-returns-2 c = rw (c .refuse2 .ensures) (write-2 _ _ _ _ _ _ _ _ (yes-of (c .before .before .before .before .before .before .before .before .before .is-fit .ensures) (c .before .before .before .before .before .before .before .before .if1 .left)) (sound-world _ (no-of (c .before .before .is-sound .ensures) (c .before .if2 .taken))))
-
-write-released-requires : tie.Need-write-released-requires
-write-released-requires c κs = fit-size _ _ (yes-of (c .before .before .before .before .before .before .before .before .before .before .before .before .is-fit .ensures) (c .before .before .before .before .before .before .before .before .before .before .before .if1 .left))
-
-same-length-3 : tie.Need-same-length-3
-same-length-3 c = search needs
-
-returns-3 : tie.Need-returns-3
-returns-3 c = write-gives _ _ _ _ _ _ _ _ (fit-unfit _ (yes-of (c .before .before .before .before .before .before .before .before .before .before .before .before .before .before .before .is-fit .ensures) (c .before .before .before .before .before .before .before .before .before .before .before .before .before .before .if1 .left))) (sound-world _ (yes-of (c .before .before .before .before .before .before .before .before .is-sound .ensures) (c .before .before .before .before .before .before .before .if2 .left))) (c .before .before .write-released .ensures)
+returns-2 c = write-gives _ _ _ _ _ _ _ _ (state-fits _ _ (c .before .before .before .before .before .before .before .state-fault .ensures) (c .before .before .before .before .before .before .if1 .left) .0) (state-fits _ _ (c .before .before .before .before .before .before .before .state-fault .ensures) (c .before .before .before .before .before .before .if1 .left) .1) (c .before .before .write-released .ensures)
 
 pub guest-write-spec : {M : Type 1} → statement M
-guest-write-spec = tie.close (tie.spec is-fit-requires refuse-requires same-length returns is-sound-requires refuse-requires-2 same-length-2 returns-2 write-released-requires same-length-3 returns-3)
+guest-write-spec = tie.close (tie.spec state-fault-requires refuse-requires same-length returns write-released-requires same-length-2 returns-2)

@@ -1,7 +1,7 @@
 -- `guard::judge_class`: what needs no chain is decided; else the chain decides. Assumes nothing.
 use borrow.Author.Tests.{not-true, not-false}
-use borrow.Author.Needs.{needs}
 use Rattle.guard.proofs.GivesLaws.{class-decided, class-refused, class-started}
+use borrow.Author.Needs.{needs}
 use Rattle.guard.proofs.judge_class.Statement.{statement}
 use Rattle.guard.proofs.judge_class.Tie as tie
 
@@ -21,10 +21,10 @@ refuse-requires : tie.Need-refuse-requires
 refuse-requires c κs = search needs
 
 returns-2 : tie.Need-returns-2
-returns-2 c = rw (c .refuse .ensures) (class-refused _ _ _ _ _ _ _ _ _ (c .before .before .before .before .before .before .before .before .before .judge-register .ensures) (not-false (c .before .before .before .before .before .before .before .before .before .judge-register .result .chain) (c .before .before .before .before .before .before .before .if1 .left)) _ (c .before .before .before .before .before .before .side-of .ensures) _ _ (c .before .before .judge-start .ensures) (c .before .if2 .taken))
+returns-2 c = rw (c .refuse .ensures) (class-refused _ _ _ _ _ _ _ _ _ (c .before .before .before .before .before .before .before .before .judge-register .ensures) (not-false (c .before .before .before .before .before .before .before .before .judge-register .result .chain) (c .before .before .before .before .before .before .if1 .left)) _ (c .before .before .before .before .before .side-of .ensures) _ _ (c .before .before .judge-start .ensures) (c .before .if2 .taken))
 
 returns-3 : tie.Need-returns-3
-returns-3 c = class-started _ _ _ _ _ _ _ _ _ (c .before .before .before .before .before .before .before .before .before .judge-register .ensures) (not-false (c .before .before .before .before .before .before .before .before .before .judge-register .result .chain) (c .before .before .before .before .before .before .before .if1 .left)) _ (c .before .before .before .before .before .before .side-of .ensures) _ _ (c .before .before .judge-start .ensures) (c .before .if2 .left)
+returns-3 c = class-started _ _ _ _ _ _ _ _ _ (c .before .before .before .before .before .before .before .before .judge-register .ensures) (not-false (c .before .before .before .before .before .before .before .before .judge-register .result .chain) (c .before .before .before .before .before .before .if1 .left)) _ (c .before .before .before .before .before .side-of .ensures) _ _ (c .before .before .judge-start .ensures) (c .before .if2 .left)
 
 pub judge-class-spec : {M : Type 1} → statement M
 judge-class-spec = tie.close (tie.spec judge-register-requires returns side-of-requires judge-start-requires refuse-requires returns-2 returns-3)

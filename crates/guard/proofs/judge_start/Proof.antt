@@ -1,15 +1,11 @@
 -- `guard::judge_start`: the chain is judged over the words in use; without fault it is taken. Assumes nothing.
-use native.Mathlib.Omega.{arith}
 use borrow.Author.Needs.{needs}
 use Rattle.guard.proofs.TableLaws.{over-refused, over-taken}
 use Rattle.guard.proofs.judge_start.Statement.{statement}
 use Rattle.guard.proofs.judge_start.Tie as tie
 
-copy-set-requires : tie.Need-copy-set-requires
-copy-set-requires c κs = search needs
-
-check-chain-requires : tie.Need-check-chain-requires
-check-chain-requires c κs = search needs
+check-used-requires : tie.Need-check-used-requires
+check-used-requires c κs = search needs
 
 enum-told : tie.Need-enum-told
 enum-told c = search needs
@@ -21,13 +17,13 @@ refusal-requires : tie.Need-refusal-requires
 refusal-requires c κs = search needs
 
 returns : tie.Need-returns
-returns c = over-refused _ _ _ _ _ _ _ _ (c .before .before .before .before .before .copy-set .ensures) (c .before .before .before .check-chain .ensures) _ _ _ (c .before .enum-told2 .given .1) (c .refusal .ensures)
+returns c = over-refused _ _ _ _ _ _ (c .before .before .before .check-used .ensures) _ _ _ (c .before .enum-told2 .given .1) (c .refusal .ensures)
 
 take-chain-requires : tie.Need-take-chain-requires
 take-chain-requires c κs = search needs
 
 returns-2 : tie.Need-returns-2
-returns-2 c = over-taken _ _ _ _ _ _ _ _ (c .before .before .before .before .before .before .before .copy-set .ensures) (c .before .before .before .before .before .check-chain .ensures) _ _ (c .before .before .before .enum-told .given .1) (c .take-chain .ensures)
+returns-2 c = over-taken _ _ _ _ _ _ (c .before .before .before .before .before .check-used .ensures) _ _ (c .before .before .before .enum-told .given .1) (c .take-chain .ensures)
 
 pub judge-start-spec : {M : Type 1} → statement M
-judge-start-spec = tie.close (tie.spec copy-set-requires check-chain-requires enum-told enum-told-2 refusal-requires returns take-chain-requires returns-2)
+judge-start-spec = tie.close (tie.spec check-used-requires enum-told enum-told-2 refusal-requires returns take-chain-requires returns-2)

@@ -5,74 +5,42 @@ use Rattle.guard.proofs.TableLaws.{word-free, word-busy, word-zero, wor
 use borrow.Author.Needs.{needs}
 use Rattle.guard.proofs.judge_word.Statement.{statement}
 use Rattle.guard.proofs.judge_word.Tie as tie
-use Rattle.guard.proofs.judge_word.Reads as reads
-use Rattle.guard.proofs.judge_word.Lts as lts
-use Rattle.guard.proofs.judge_last.Reads as judge-last-reads
-use Rattle.words.proofs.is_used.Reads as is-used-reads
-use Rattle.words.proofs.put_at.Reads as put-at-reads
-use Rattle.words.proofs.word_of.Reads as word-of-reads
 
--- src/lib.rt:393:9
 is-used-requires : tie.Need-is-used-requires
 is-used-requires c κs = search needs
 
--- src/lib.rt:394:9
 put-at-requires : tie.Need-put-at-requires
 put-at-requires c κs = search needs
 
--- src/lib.rt:395:9
 same-length : tie.Need-same-length
 same-length c = search needs
 
--- src/lib.rt:395:9
 returns : tie.Need-returns
 returns c = word-free _ _ _ _ _ _ _ _ (no-of (c .before .before .before .before .before .is-used .ensures) (c .before .before .before .before .if1 .taken)) (c .before .before .put-at .ensures)
 
--- src/lib.rt:397:8
 word-of-requires : tie.Need-word-of-requires
 word-of-requires c κs = search needs
 
--- src/lib.rt:398:9
 same-length-2 : tie.Need-same-length-2
 same-length-2 c = search needs
 
--- src/lib.rt:398:9
 returns-2 : tie.Need-returns-2
 returns-2 c = word-busy _ _ _ _ _ _ _ (yes-of (c .before .before .before .before .is-used .ensures) (c .before .before .before .if1 .left)) (λ e. c .if2 .taken (c .before .word-of .ensures ∙ e))
 
--- src/lib.rt:401:9
 same-length-3 : tie.Need-same-length-3
 same-length-3 c = search needs
 
--- src/lib.rt:401:9
 returns-3 : tie.Need-returns-3
 returns-3 c = word-zero _ _ _ _ _ _ _ (yes-of (c .before .before .before .before .before .is-used .ensures) (c .before .before .before .before .if1 .left)) (sym (c .before .before .word-of .ensures) ∙ c .before .if2 .left) (c .if3 .taken)
 
--- src/lib.rt:403:5
 judge-last-requires : tie.Need-judge-last-requires
 judge-last-requires c κs = search needs
 
--- src/lib.rt:378:1
 same-length-4 : tie.Need-same-length-4
 same-length-4 c = search needs
 
--- src/lib.rt:378:1
 returns-4 : tie.Need-returns-4
-returns-4 c = word-last _ _ _ _ _ _ _ _ (yes-of (c .before .before .before .before .before .before .before .before .before .before .before .before .is-used .ensures) (c .before .before .before .before .before .before .before .before .before .before .before .if1 .left)) (sym (c .before .before .before .before .before .before .before .before .before .word-of .ensures) ∙ c .before .before .before .before .before .before .before .before .if2 .left) (c .before .before .before .before .before .before .before .if3 .left) (c .before .before .judge-last .ensures)
+returns-4 c = word-last _ _ _ _ _ _ _ _ (yes-of (c .before .before .before .before .before .before .before .before .before .before .before .is-used .ensures) (c .before .before .before .before .before .before .before .before .before .before .if1 .left)) (sym (c .before .before .before .before .before .before .before .before .word-of .ensures) ∙ c .before .before .before .before .before .before .before .if2 .left) (c .before .before .before .before .before .before .if3 .left) (c .before .before .judge-last .ensures)
 
 pub judge-word-spec : {M : Type 1} → statement M
-judge-word-spec =
-    tie.close
-    (tie.spec
-    is-used-requires
-    put-at-requires
-    same-length
-    returns
-    word-of-requires
-    same-length-2
-    returns-2
-    same-length-3
-    returns-3
-    judge-last-requires
-    same-length-4
-    returns-4)
+judge-word-spec = tie.close (tie.spec is-used-requires put-at-requires same-length returns word-of-requires same-length-2 returns-2 same-length-3 returns-3 judge-last-requires same-length-4 returns-4)
