@@ -6,7 +6,6 @@ An edit passes when the crates below still have well-formed definitions and some
 usage: run.py [--why] [NAME ..]      all edits of this folder, or those whose file name begins so; --why prints the refusal too.
 Last line: 'N passed, M failed'.
 """
-import concurrent.futures
 import os
 import pathlib
 import re
@@ -17,30 +16,15 @@ import tempfile
 import time
 
 sys.dont_write_bytecode = True
-import cut
-
 HERE = pathlib.Path(__file__).resolve().parent
+sys.path.insert(0, str(HERE.parent))
+import cut
+from edits import OTHER, read_edit, try_all
+
 REPO = HERE.parent.parent
 ROOTS = ["queue", "safety"]
 ERROR = re.compile(r"crates/([a-z]+)/((?:specs|proofs|src)/[^:]*):\d+:\d+: error: (.*)")
 WHY = "--why" in sys.argv
-OTHER = re.compile(r"in scope|unknown|parse|expected a|unexpected|no such|not found", re.I)
-
-
-def read_edit(path):
-    """The rule in the comment line, and the changes: one `file:`, `old:`, `new:` after another."""
-    rule, changes = "", []
-    for line in path.read_text().splitlines():
-        key, _, value = line.partition(": ")
-        if line.startswith("# ") and not rule:
-            rule = line[2:]
-        elif key == "file":
-            name = value
-        elif key == "old":
-            old = value
-        elif key == "new":
-            changes.append((name, old, value))
-    return rule, changes
 
 
 def check(repo, jobs="1"):
@@ -85,7 +69,7 @@ def try_edit(path, base, work):
 def main():
     names = [a for a in sys.argv[1:] if a != "--why"]
     edits = [p for p in sorted(HERE.glob("*.edit")) if not names or any(p.name.startswith(a) for a in names)]
-    began, passed, failed = time.time(), 0, 0
+    began = time.time()
     with tempfile.TemporaryDirectory() as folder:
         work = pathlib.Path(folder)
         base = work / "base"
@@ -97,13 +81,7 @@ def main():
             print("0 passed, 1 failed")
             return 1
         print("unchanged definitions: proved in %d s" % (time.time() - began), flush=True)
-        with concurrent.futures.ThreadPoolExecutor(int(os.environ.get("RT_JOBS", os.cpu_count() or 1))) as pool:
-            for name, good, text in pool.map(lambda p: try_edit(p, base, work), edits):
-                passed, failed = passed + good, failed + (not good)
-                print("%s %s: %s" % ("ok" if good else "FAILED", name, text), flush=True)
-    print("%d s in all" % (time.time() - began))
-    print("%d passed, %d failed" % (passed, failed))
-    return 1 if failed or not edits else 0
+        return try_all(lambda p: [try_edit(p, base, work)], edits, began)
 
 
 if __name__ == "__main__":

@@ -6,7 +6,6 @@ can be tried in the time. An edit passes when the crate is proved without it and
 usage: run.py [--why] [CRATE[/NAME] ..]      all edits of this folder, or those named; --why prints the refusal too.
 Last line: 'N passed, M failed'.
 """
-import concurrent.futures
 import os
 import pathlib
 import re
@@ -19,8 +18,8 @@ import time
 sys.dont_write_bytecode = True
 HERE = pathlib.Path(__file__).resolve().parent
 REPO = HERE.parent.parent
-sys.path.insert(0, str(HERE.parent / "definition-edits"))
-from run import OTHER, read_edit
+sys.path.insert(0, str(HERE.parent))
+from edits import OTHER, read_edit, try_all
 
 ERROR = re.compile(r"^(?:note: )?\S*?crates/([a-z]+)/((?:specs|proofs|src)/[^:]*):\d+:\d+: (error: .*|it is not proved .*)", re.M)
 WHY = "--why" in sys.argv
@@ -88,19 +87,12 @@ def main():
         crate = path.parent.name
         if not names or crate in names or "%s/%s" % (crate, path.stem) in names:
             edits.setdefault(crate, []).append(path)
-    began, passed, failed = time.time(), 0, 0
+    began = time.time()
     with tempfile.TemporaryDirectory() as folder:
         work = pathlib.Path(folder)
-        with concurrent.futures.ThreadPoolExecutor(int(os.environ.get("RT_JOBS", os.cpu_count() or 1))) as pool:
-            # the crates with most to try first, so that none is left alone at the end
-            order = sorted(edits, key=lambda c: -len(edits[c]))
-            for answers in pool.map(lambda c: try_crate(c, edits[c], work), order):
-                for name, good, text in answers:
-                    passed, failed = passed + good, failed + (not good)
-                    print("%s %s: %s" % ("ok" if good else "FAILED", name, text), flush=True)
-    print("%d s in all" % (time.time() - began))
-    print("%d passed, %d failed" % (passed, failed))
-    return 1 if failed or not edits else 0
+        # the crates with most to try first, so that none is left alone at the end
+        order = sorted(edits, key=lambda c: -len(edits[c]))
+        return try_all(lambda c: try_crate(c, edits[c], work), order, began)
 
 
 if __name__ == "__main__":
