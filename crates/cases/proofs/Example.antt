@@ -21,7 +21,7 @@ use Rattle.book.specs.Release.{plan, releaseStep, releasedFrom, releasedAll, re
 use Rattle.book.specs.World.{fitParts, unfit, soundWorld, release}
 use Rattle.guard.specs.Judges.{judgeHead, judgeRegister, lastOf, isLast, judgeAppend, judgeLast, judgeWord, judgeClass, judge}
 use Rattle.guard.specs.Guard.{admitted, guestWrite, inReception, judgeKind, kindChange}
-use Rattle.controller.specs.Transmit.{fetch, readBurst, close, markEoq, octetsOf, clearOwn, finish, sendStep}
+use Rattle.phases.specs.Transmit.{fetch, readBurst, close, markEoq, octetsOf, clearOwn, finish, sendStep}
 use Rattle.controller.specs.Controller.{transmitStep, receiveStep, tearMark, tearStep, resetStep, stepOf, frameOf, registerWrite, unguardedWrite, freshController}
 use Rattle.machine.specs.Machine.{applyWrite, applyKind, applyFrame, applyStep, freshMachine}
 use Rattle.records.specs.Records.{decodeRam, decodeLater, decode}

@@ -17,9 +17,10 @@ use Rattle.layout.specs.Layout.{descBytes, descFirst, lengthMax, inDescriptors}
 use Rattle.layout.specs.Class.{classAt}
 use Rattle.words.specs.Word.{put}
 use Rattle.registers.specs.Pending.{hdpOf}
+use Rattle.phases.specs.declared.Receiving.the-variants.{Fetch}
+use Rattle.phases.specs.Quiet.{waits}
 use Rattle.controller.specs.declared.Controller.{Controller}
-use Rattle.controller.specs.declared.Receiving.the-variants.{Fetch}
-use Rattle.controller.specs.Controller.{Moved, Framed, answer, unlessUndefined, waits, held, framed, setRx, frameOf, registerWrite, unguardedWrite}
+use Rattle.controller.specs.Controller.{Moved, Framed, answer, unlessUndefined, held, framed, setRx, frameOf, registerWrite, unguardedWrite}
 
 module _ (c : Controller) (m : List ℕ) (x : Moved) where
   pub entry-unfit : length m ≢ descBytes → unlessUndefined c m x ≡ answer 1 c m

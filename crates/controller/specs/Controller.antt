@@ -26,23 +26,24 @@ use Rattle.registers.specs.Pending.{queues, tornDown, hdpOf, cpOf, tornOf, awai
 use Rattle.registers.specs.Rules.{registerFault, written}
 use Rattle.registers.specs.declared.Regs.{Regs}
 use Rattle.registers.specs.declared.Flags.{Flags}
-use Rattle.controller.specs.declared.Burst.{Burst}
-use Rattle.controller.specs.declared.Burst.the-variants.{Quiet}
-use Rattle.controller.specs.declared.Sending.{Sending}
-use Rattle.controller.specs.declared.Sending.the-variants as S
-use Rattle.controller.specs.declared.Receiving.{Receiving}
-use Rattle.controller.specs.declared.Receiving.the-variants as R
-use Rattle.controller.specs.declared.Sends.{Sends}
-use Rattle.controller.specs.declared.Sends.the-variants as Sends
-use Rattle.controller.specs.declared.Takes.{Takes}
-use Rattle.controller.specs.declared.Takes.the-variants as Takes
+use Rattle.phases.specs.declared.Burst.{Burst}
+use Rattle.phases.specs.declared.Burst.the-variants.{Quiet}
+use Rattle.phases.specs.declared.Sending.{Sending}
+use Rattle.phases.specs.declared.Sending.the-variants as S
+use Rattle.phases.specs.declared.Receiving.{Receiving}
+use Rattle.phases.specs.declared.Receiving.the-variants as R
+use Rattle.phases.specs.declared.Sends.{Sends}
+use Rattle.phases.specs.declared.Sends.the-variants as Sends
+use Rattle.phases.specs.declared.Takes.{Takes}
+use Rattle.phases.specs.declared.Takes.the-variants as Takes
+use Rattle.phases.specs.Transmit.{sendStep}
+use Rattle.phases.specs.Receive.{takeStep}
+use Rattle.phases.specs.Quiet.{quietTx, quietRx, waits}
 use Rattle.controller.specs.declared.Controller.{Controller}
 use Rattle.controller.specs.declared.Stepped.{Stepped}
 use Rattle.controller.specs.declared.Arrived.{Arrived}
 use Rattle.controller.specs.declared.Engine.{Engine}
 use Rattle.controller.specs.declared.Engine.the-variants.{Reset, Transmit, Receive, TearTransmit, TearReceive}
-use Rattle.controller.specs.Transmit.{sendStep}
-use Rattle.controller.specs.Receive.{takeStep}
 
 -- ---- named changes of the record
 abbrev pub setRegs : Regs → Controller → Controller
@@ -169,26 +170,6 @@ unfoldable pub receiveStep : Controller → List ℕ → Moved
 receiveStep c m = takeMoved (takeStep m (c .rx) (hdpOf (c .regs) 1) (cpOf (c .regs) 1)) c m
 
 -- ---- teardown and reset
-abbrev pub quietTx : Sending → Bool
-quietTx S.Idle = true
-quietTx S.New = true
-quietTx (S.Within p) = false
-quietTx (S.Moving r) = false
-quietTx (S.Ended e) = false
-quietTx (S.Marking e) = false
-quietTx (S.Owning e) = false
-quietTx (S.Done e) = false
-
-abbrev pub quietRx : Receiving → Bool
-quietRx R.Idle = true
-quietRx R.Wait = true
-quietRx (R.Fetch f) = false
-quietRx (R.Moving s) = false
-quietRx (R.Ended e) = false
-quietRx (R.Last s) = false
-quietRx (R.First s) = false
-quietRx (R.Done e) = false
-
 abbrev pub quiet : Controller → ℕ → Bool
 quiet c q = pick (eqb q 0) (quietTx (c .tx)) (quietRx (c .rx))
 
@@ -241,16 +222,6 @@ unfoldable pub stepOf : Engine → Controller → List ℕ → Moved
 stepOf e c m = unlessUndefined c m (moveOf e c m)
 
 -- ---- a frame: "taken (go to 1) when HDP is nonzero, the engine waits, and no reset or receive teardown is pending; else 24"
-abbrev pub waits : Receiving → Bool
-waits R.Idle = false
-waits R.Wait = true
-waits (R.Fetch f) = false
-waits (R.Moving s) = false
-waits (R.Ended e) = false
-waits (R.Last s) = false
-waits (R.First s) = false
-waits (R.Done e) = false
-
 pub record Framed : Type 0 where
   pub ctl : Controller
   pub number : ℕ

@@ -1,3 +1,1 @@
-pub mod Transmit
-pub mod Receive
 pub mod Controller

@@ -1,12 +1,10 @@
 // The controller: its record, and each way in which it changes, one numbered step of document 01 at a time.
 // Promises: a step, a frame and an unguarded write each leave exactly the record, the descriptor memory, the burst and the answer
-// that 01, "The controller's steps", gives; a record unfit for its step is answered 22 and keeps its memory.
+// that 01, "The controller's steps", gives; a record unfit for its step is answered 22 and keeps its memory. What an engine's step does in
+// its phase is the crate `phases`; here it meets flags, registers, teardown, reset and totals. Knows nothing of the guard or its book.
 
-mod common; // common.rt: what both engines ask
 mod record; // record.rt: named changes of the record
-mod receive; // receive.rt: the receive engine, a method for each phase
 mod steps; // steps.rt: the steps of the whole record
-mod transmit; // transmit.rt: the transmit engine, likewise
 mod writes; // writes.rt: register writes that no guard has judged
 
 use layout::DESC_BYTES;
@@ -14,6 +12,11 @@ use layout::DESC_FIRST;
 use layout::LENGTH_MAX;
 use layout::class_at;
 use layout::is_descriptor;
+use phases::Burst;
+use phases::Frame;
+use phases::Receiving;
+use phases::Sending;
+use phases::receive::is_waiting;
 use record::SENDING;
 use record::TAKING;
 use record::give;
@@ -34,7 +37,7 @@ ghost use Prim.Native.Nat.{_+_};
 ghost use lib.Dec.{leb, ltb};
 ghost use Rattle.layout.specs.Choice.{both};
 ghost use Rattle.layout.specs.Layout.{descFirst, descBytes, lengthMax};
-ghost use Rattle.controller.specs.Controller.{outcome, stepOf, waits, arrival, framed, frameOf, unguardedWrite, freshController};
+ghost use Rattle.controller.specs.Controller.{outcome, stepOf, arrival, framed, frameOf, unguardedWrite, freshController};
 
 // Answers of the controller alone, in 01's numbers.
 pub const UNFIT_MEMORY: u8 = 1;
@@ -48,139 +51,6 @@ pub const UNDEFINED: u8 = 22;
 pub const BAD_FRAME: u8 = 23;
 
 pub const DROPPED: u8 = 24;
-
-// What one step moves over the bus: nothing, a read burst or a store burst, with its address and number of bytes.
-pub enum Burst {
-    Quiet,
-    Read(u32, u32),
-    Store(u32, u32),
-}
-
-// Transmit step 1 inside a packet: the SOP descriptor's address and word 3, and the lengths so far.
-pub struct Packet {
-    pub sop: u32,
-    pub word3: u32,
-    pub sum: u32,
-}
-
-// Transmit step 2: the packet with this descriptor's length, the bytes still to be read, the latched next and EOP.
-pub struct Reading {
-    pub sop: u32,
-    pub word3: u32,
-    pub sum: u32,
-    pub at: u32,
-    pub left: u32,
-    pub next: u32,
-    pub eop: bool,
-}
-
-// Transmit step 3: a buffer that is read to its end.
-pub struct Finished {
-    pub sop: u32,
-    pub word3: u32,
-    pub sum: u32,
-    pub next: u32,
-    pub eop: bool,
-}
-
-// Transmit steps 4 and 5: a packet that is read, and the next that was latched after it.
-pub struct Closing {
-    pub sop: u32,
-    pub word3: u32,
-    pub next: u32,
-}
-
-// Steps 6 of both engines: the packet is marked; the next that was latched.
-pub struct Leaving {
-    pub next: u32,
-}
-
-// The transmit engine. Its current descriptor is always the one at HDP.
-pub enum Sending {
-    Idle,
-    New,
-    Within(Packet),
-    Moving(Reading),
-    Ended(Finished),
-    Marking(Closing),
-    Owning(Closing),
-    Done(Leaving),
-}
-
-// Receive step 1: the frame's first descriptor, the bytes stored so far and those still to come.
-pub struct Frame {
-    pub first: u32,
-    pub stored: u32,
-    pub left: u32,
-}
-
-// Receive step 2: where the next byte goes, the room left in this buffer, and the bytes stored in it.
-pub struct Storing {
-    pub first: u32,
-    pub stored: u32,
-    pub left: u32,
-    pub at: u32,
-    pub room: u32,
-    pub here: u32,
-}
-
-// Receive step 3: the buffer is full, or the frame is at its end.
-pub struct Filled {
-    pub first: u32,
-    pub stored: u32,
-    pub left: u32,
-    pub room: u32,
-    pub here: u32,
-}
-
-// Receive steps 4 and 5: the frame is stored; the next that was latched, and whether some of it was dropped.
-pub struct Stored {
-    pub first: u32,
-    pub stored: u32,
-    pub here: u32,
-    pub next: u32,
-    pub overrun: bool,
-}
-
-// The receive engine. Its current descriptor is always the one at HDP.
-pub enum Receiving {
-    Idle,
-    Wait,
-    Fetch(Frame),
-    Moving(Storing),
-    Ended(Filled),
-    Last(Stored),
-    First(Stored),
-    Done(Leaving),
-}
-
-// One step of the transmit engine: the next phase, its registers, the burst, and the octets of a packet just sent.
-pub struct Sent {
-    pub state: Sending,
-    pub hdp: u32,
-    pub cp: u32,
-    pub burst: Burst,
-    pub octets: u32,
-}
-
-pub enum Sends {
-    Went(Sent),
-    Unfit,
-}
-
-// One step of the receive engine, likewise.
-pub struct Took {
-    pub state: Receiving,
-    pub hdp: u32,
-    pub cp: u32,
-    pub burst: Burst,
-    pub octets: u32,
-}
-
-pub enum Takes {
-    Went(Took),
-    Unfit,
-}
 
 // The controller record. `stages` says which teardown step comes next on each side (1, 2, else 3).
 pub struct Controller {
@@ -232,22 +102,6 @@ pub fn step_by(c: Controller, m: &mut [u8], e: Engine) -> Stepped
         Engine::Receive => receive_step(c, m),
         Engine::TearTransmit => tear_step(c, m, SENDING),
         Engine::TearReceive => tear_step(c, m, TAKING),
-    }
-}
-
-// Whether the receive engine waits.
-fn is_waiting(s: Receiving) -> bool
-    ensures { λ r. ⌜ r ≡ waits s ⌝ }
-{
-    match s {
-        Receiving::Idle => false,
-        Receiving::Wait => true,
-        Receiving::Fetch(_) => false,
-        Receiving::Moving(_) => false,
-        Receiving::Ended(_) => false,
-        Receiving::Last(_) => false,
-        Receiving::First(_) => false,
-        Receiving::Done(_) => false,
     }
 }
 

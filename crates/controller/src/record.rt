@@ -1,16 +1,18 @@
 // Named changes of the controller record, and what its flags and phases say.
 
-use crate::Burst;
 use crate::Controller;
-use crate::Receiving;
-use crate::Sending;
 use crate::Stepped;
+use phases::Burst;
+use phases::Receiving;
+use phases::Sending;
+use phases::receive::is_quiet_rx;
+use phases::transmit::is_quiet_tx;
 ghost use mathlib.Core.Path.{_≡_};
 ghost use mathlib.Core.List.{List};
 ghost use Prim.Native.Nat.{ℕ, _<_};
 ghost use lib.ListN.{getD};
 ghost use Rattle.registers.specs.Pending.{hdpOf, cpOf, tornOf, setHdp, setCp};
-ghost use Rattle.controller.specs.Controller.{setRegs, setTx, setRx, setIdle, setStage, added, quietTx, quietRx, quiet, held, outcome, answer, undefine};
+ghost use Rattle.controller.specs.Controller.{setRegs, setTx, setRx, setIdle, setStage, added, quiet, held, outcome, answer, undefine};
 
 const TOTAL_MAX: u64 = 0xFFFF_FFFF_FFFF_FFFF;
 
@@ -149,37 +151,7 @@ pub fn set_idle(c: Controller, q: usize) -> Controller
     set_rx(c, Receiving::Idle, c.received)
 }
 
-// Whether an engine is idle, waiting or, transmit only, at 1 of a new packet.
-fn is_quiet_tx(s: Sending) -> bool
-    ensures { λ r. ⌜ r ≡ quietTx s ⌝ }
-{
-    match s {
-        Sending::Idle => true,
-        Sending::New => true,
-        Sending::Within(_) => false,
-        Sending::Moving(_) => false,
-        Sending::Ended(_) => false,
-        Sending::Marking(_) => false,
-        Sending::Owning(_) => false,
-        Sending::Done(_) => false,
-    }
-}
-
-fn is_quiet_rx(s: Receiving) -> bool
-    ensures { λ r. ⌜ r ≡ quietRx s ⌝ }
-{
-    match s {
-        Receiving::Idle => true,
-        Receiving::Wait => true,
-        Receiving::Fetch(_) => false,
-        Receiving::Moving(_) => false,
-        Receiving::Ended(_) => false,
-        Receiving::Last(_) => false,
-        Receiving::First(_) => false,
-        Receiving::Done(_) => false,
-    }
-}
-
+// Whether the engine of queue q is idle, waiting or, transmit only, at 1 of a new packet.
 pub fn is_quiet(c: Controller, q: usize) -> bool
     ensures { λ r. ⌜ r ≡ quiet c q ⌝ }
 {

@@ -2,12 +2,7 @@
 // not undefined: `step_by` asks both.
 
 use crate::Controller;
-use crate::Sends;
-use crate::Sent;
 use crate::Stepped;
-use crate::Takes;
-use crate::Took;
-use crate::receive::step_receive;
 use crate::record::SENDING;
 use crate::record::TAKING;
 use crate::record::add_octets;
@@ -24,11 +19,16 @@ use crate::record::set_rx;
 use crate::record::set_stage;
 use crate::record::set_tx;
 use crate::record::stage_of;
-use crate::transmit::step_transmit;
 use descriptor::mark_td;
 use layout::TORN_DOWN;
 use layout::is_good;
 use layout::word_number;
+use phases::Sends;
+use phases::Sent;
+use phases::Takes;
+use phases::Took;
+use phases::receive::step_receive;
+use phases::transmit::step_transmit;
 ghost use mathlib.Core.Path.{_≡_};
 ghost use mathlib.Core.List.{List};
 ghost use Prim.Native.Nat.{ℕ, _<_};

@@ -2,8 +2,6 @@
 
 use crate::Controller;
 use crate::NOT_GUARDED;
-use crate::Receiving;
-use crate::Sending;
 use crate::Stepped;
 use crate::record::SENDING;
 use crate::record::give;
@@ -11,6 +9,8 @@ use crate::record::give_undefined;
 use crate::record::set_rx;
 use crate::record::set_tx;
 use layout::HDP;
+use phases::Receiving;
+use phases::Sending;
 use registers::is_awaiting;
 use registers::register_fault;
 use registers::register_written;

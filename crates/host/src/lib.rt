@@ -3,12 +3,12 @@
 // Document 01, "The host loop keeps one controller record and lends it to each step, which changes it there".
 
 use controller::Arrived;
-use controller::Burst;
 use controller::Controller;
 use controller::Engine;
 use controller::Stepped;
 use controller::step_by;
 use controller::take_frame_by;
+use phases::Burst;
 ghost use mathlib.Core.Path.{_≡_};
 ghost use Rattle.controller.specs.Controller.{outcome, stepOf, arrival, frameOf};
 ghost use Rattle.host.specs.Host.{toldOf, turnOf};

@@ -18,7 +18,7 @@ use Rattle.guard.specs.declared.Effect.the-variants.{Plain}
 use Rattle.guard.specs.declared.Done.{Done}
 use Rattle.guard.specs.Answers.{Outcome, numberOf, worldAt, Gives}
 use Rattle.guard.specs.Guard.{guestWrite, kindChange}
-use Rattle.controller.specs.declared.Burst.the-variants.{Quiet}
+use Rattle.phases.specs.declared.Burst.the-variants.{Quiet}
 use Rattle.controller.specs.declared.Controller.{Controller}
 use Rattle.controller.specs.declared.Engine.{Engine}
 use Rattle.controller.specs.declared.Stepped.{Stepped}

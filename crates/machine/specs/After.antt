@@ -14,7 +14,7 @@ use Rattle.book.specs.declared.Book.{Book}
 use Rattle.guard.specs.declared.Answer.{Answer}
 use Rattle.guard.specs.declared.Answer.the-variants.{Refused}
 use Rattle.guard.specs.Answers.{numberOf}
-use Rattle.controller.specs.declared.Burst.the-variants.{Quiet}
+use Rattle.phases.specs.declared.Burst.the-variants.{Quiet}
 use Rattle.controller.specs.declared.Controller.{Controller}
 use Rattle.controller.specs.Controller.{unguardedWrite}
 use Rattle.machine.specs.declared.After.{After}

@@ -20,8 +20,8 @@ use Rattle.guard.specs.declared.Answer.the-variants.{Accepted, Refused}
 use Rattle.guard.specs.declared.Effect.the-variants.{Plain}
 use Rattle.guard.specs.Answers.{Outcome, numberOf}
 use Rattle.guard.specs.Guard.{guestWrite, kindChange}
-use Rattle.controller.specs.declared.Burst.{Burst}
-use Rattle.controller.specs.declared.Burst.the-variants.{Quiet}
+use Rattle.phases.specs.declared.Burst.{Burst}
+use Rattle.phases.specs.declared.Burst.the-variants.{Quiet}
 use Rattle.controller.specs.declared.Engine.{Engine}
 use Rattle.controller.specs.declared.Controller.{Controller}
 use Rattle.controller.specs.Controller.{Moved, stepOf, Framed, frameOf, unguardedWrite, freshController}

@@ -5,7 +5,6 @@
 // alone. Document 01, "Answers by number", "The controller's steps".
 
 use book::Book;
-use controller::Burst;
 use controller::Controller;
 use controller::Engine;
 use controller::Stepped;
@@ -18,6 +17,7 @@ use guard::guest_write;
 use guard::kind_change;
 use host::hosted;
 use host::hosted_frame;
+use phases::Burst;
 ghost use mathlib.Core.Path.{_≡_};
 ghost use mathlib.Core.List.{List};
 ghost use Prim.Native.Nat.{ℕ};

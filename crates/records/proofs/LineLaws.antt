@@ -15,7 +15,7 @@ use lib.ListN.{length, length-append}
 use lib.Dec.{ltb}
 use borrow.Author.Tests.{lt-ltb, le-ltb}
 use Rattle.layout.specs.Choice.{pick}
-use Rattle.controller.specs.declared.Burst.the-variants.{Quiet, Read, Store}
+use Rattle.phases.specs.declared.Burst.the-variants.{Quiet, Read, Store}
 use Rattle.records.specs.Lines.{Event, wrote, changed, framed, moved, digitsFor, decimal, hexDigit, hexFor, hex8, lineWith, lineOf, sentLine, badLine, lineMax}
 
 -- ---- decimal

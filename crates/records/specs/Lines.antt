@@ -14,8 +14,8 @@ use lib.ListN.{length}
 use lib.Seq.{sets}
 use lib.Dec.{ltb}
 use Rattle.layout.specs.Choice.{pick}
-use Rattle.controller.specs.declared.Burst.{Burst}
-use Rattle.controller.specs.declared.Burst.the-variants.{Quiet, Read, Store}
+use Rattle.phases.specs.declared.Burst.{Burst}
+use Rattle.phases.specs.declared.Burst.the-variants.{Quiet, Read, Store}
 
 pub data Event : Type 0 where
   wrote : ℕ → ℕ → Event

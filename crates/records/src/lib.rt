@@ -12,7 +12,7 @@ ghost use Rattle.records.specs.declared.Record.the-variants.{Write, Kind
 ghost use Rattle.records.specs.declared.Decoded.the-variants.{Good};
 ghost use Rattle.records.specs.Records.{u16At, u32At, marked, needs, decodeRam, decodeSteps, decodeLater, decode};
 ghost use Rattle.records.specs.Lines.{wrote, changed, framed, moved, decimal, hexDigit, hex8, tailWith, lineWith, lineOf, sentLine, badLine, lineMax, Prints};
-use controller::Burst;
+use phases::Burst;
 
 // One record of a bench file. The kinds of a `Ram` record stand behind its four bytes of mark and N.
 pub enum Record {

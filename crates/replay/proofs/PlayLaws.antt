@@ -11,7 +11,7 @@ use native.Mathlib.Omega.{arith}
 use lib.ListN.{length}
 use Rattle.book.specs.declared.Book.{Book}
 use Rattle.guard.specs.Answers.{numberOf}
-use Rattle.controller.specs.declared.Burst.{Burst}
+use Rattle.phases.specs.declared.Burst.{Burst}
 use Rattle.controller.specs.declared.Controller.{Controller}
 use Rattle.controller.specs.declared.Engine.{Engine}
 use Rattle.machine.specs.declared.After.{After}

@@ -7,18 +7,18 @@ use mathlib.Core.Path.{_≡_, refl, ap, _∙_, sym}
 use mathlib.Core.Logic.{_≢_}
 use mathlib.Core.List.{List}
 use borrow.Author.Tests.{ne-eqb}
-use Rattle.controller.specs.declared.Packet.{Packet}
-use Rattle.controller.specs.declared.Reading.{Reading}
-use Rattle.controller.specs.declared.Finished.{Finished}
-use Rattle.controller.specs.declared.Closing.{Closing}
-use Rattle.controller.specs.declared.Frame.{Frame}
-use Rattle.controller.specs.declared.Storing.{Storing}
-use Rattle.controller.specs.declared.Filled.{Filled}
-use Rattle.controller.specs.declared.Stored.{Stored}
-use Rattle.controller.specs.declared.Sending.{Sending}
-use Rattle.controller.specs.declared.Sending.the-variants as S
-use Rattle.controller.specs.declared.Receiving.{Receiving}
-use Rattle.controller.specs.declared.Receiving.the-variants as R
+use Rattle.phases.specs.declared.Packet.{Packet}
+use Rattle.phases.specs.declared.Reading.{Reading}
+use Rattle.phases.specs.declared.Finished.{Finished}
+use Rattle.phases.specs.declared.Closing.{Closing}
+use Rattle.phases.specs.declared.Frame.{Frame}
+use Rattle.phases.specs.declared.Storing.{Storing}
+use Rattle.phases.specs.declared.Filled.{Filled}
+use Rattle.phases.specs.declared.Stored.{Stored}
+use Rattle.phases.specs.declared.Sending.{Sending}
+use Rattle.phases.specs.declared.Sending.the-variants as S
+use Rattle.phases.specs.declared.Receiving.{Receiving}
+use Rattle.phases.specs.declared.Receiving.the-variants as R
 use Rattle.controller.specs.declared.Engine.{Engine}
 use Rattle.controller.specs.declared.Engine.the-variants.{Reset, Transmit, Receive, TearTransmit, TearReceive}
 use Rattle.rig.specs.Record.{at, packetIn, readingIn, finishedIn, closingIn, sendingBy, frameIn, storingIn, filledIn, storedIn, receivingBy}

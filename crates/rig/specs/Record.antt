@@ -19,20 +19,20 @@ use lib.Dec.{eqb}
 use Rattle.layout.specs.Choice.{pick}
 use Rattle.registers.specs.declared.Flags.{Flags}
 use Rattle.registers.specs.declared.Regs.{Regs}
-use Rattle.controller.specs.declared.Packet.{Packet}
-use Rattle.controller.specs.declared.Reading.{Reading}
-use Rattle.controller.specs.declared.Finished.{Finished}
-use Rattle.controller.specs.declared.Closing.{Closing}
-use Rattle.controller.specs.declared.Frame.{Frame}
-use Rattle.controller.specs.declared.Storing.{Storing}
-use Rattle.controller.specs.declared.Filled.{Filled}
-use Rattle.controller.specs.declared.Stored.{Stored}
-use Rattle.controller.specs.declared.Sending.{Sending}
-use Rattle.controller.specs.declared.Sending.the-variants as S
-use Rattle.controller.specs.declared.Receiving.{Receiving}
-use Rattle.controller.specs.declared.Receiving.the-variants as R
-use Rattle.controller.specs.declared.Burst.{Burst}
-use Rattle.controller.specs.declared.Burst.the-variants.{Quiet, Read, Store}
+use Rattle.phases.specs.declared.Packet.{Packet}
+use Rattle.phases.specs.declared.Reading.{Reading}
+use Rattle.phases.specs.declared.Finished.{Finished}
+use Rattle.phases.specs.declared.Closing.{Closing}
+use Rattle.phases.specs.declared.Frame.{Frame}
+use Rattle.phases.specs.declared.Storing.{Storing}
+use Rattle.phases.specs.declared.Filled.{Filled}
+use Rattle.phases.specs.declared.Stored.{Stored}
+use Rattle.phases.specs.declared.Sending.{Sending}
+use Rattle.phases.specs.declared.Sending.the-variants as S
+use Rattle.phases.specs.declared.Receiving.{Receiving}
+use Rattle.phases.specs.declared.Receiving.the-variants as R
+use Rattle.phases.specs.declared.Burst.{Burst}
+use Rattle.phases.specs.declared.Burst.the-variants.{Quiet, Read, Store}
 use Rattle.controller.specs.declared.Controller.{Controller}
 
 abbrev pub at : List ℕ → ℕ → ℕ

@@ -4,24 +4,24 @@
 // Document 01, "The controller's steps".
 
 use controller::Arrived;
-use controller::Burst;
-use controller::Closing;
 use controller::Controller;
 use controller::Engine;
-use controller::Filled;
-use controller::Finished;
-use controller::Frame;
-use controller::Leaving;
-use controller::Packet;
-use controller::Reading;
-use controller::Receiving;
-use controller::Sending;
 use controller::Stepped;
-use controller::Stored;
-use controller::Storing;
 use controller::unguarded_write;
 use host::hosted;
 use host::hosted_frame;
+use phases::Burst;
+use phases::Closing;
+use phases::Filled;
+use phases::Finished;
+use phases::Frame;
+use phases::Leaving;
+use phases::Packet;
+use phases::Reading;
+use phases::Receiving;
+use phases::Sending;
+use phases::Stored;
+use phases::Storing;
 use registers::Flags;
 use registers::Regs;
 ghost use mathlib.Core.Path.{_≡_};

@@ -31,10 +31,10 @@ use Rattle.queue.proofs.StoreLaws.{Same3}
 use Rattle.queue.proofs.FreshLaws.{fresh-live}
 use Rattle.queue.proofs.TwoLaws.{ReleasedTwo, released-two}
 use Rattle.queue.proofs.RoomyLaws.{room-now-lengths}
-use Rattle.controller.specs.declared.Sending.{Sending}
-use Rattle.controller.specs.declared.Sending.the-variants as S
-use Rattle.controller.specs.declared.Receiving.{Receiving}
-use Rattle.controller.specs.declared.Receiving.the-variants as R
+use Rattle.phases.specs.declared.Sending.{Sending}
+use Rattle.phases.specs.declared.Sending.the-variants as S
+use Rattle.phases.specs.declared.Receiving.{Receiving}
+use Rattle.phases.specs.declared.Receiving.the-variants as R
 use Rattle.machine.specs.Machine.{worldOf}
 use Rattle.safety.proofs.View.{Post, Common, View, build, marksOf, regsOf, flagsOf, bookFlags, waiting, wordsOf, modeOf, leftT, leftR}
 use Rattle.safety.proofs.Inv.{Held, Sendable, Fillable, Roomy, Ready, TxInv, idleTx, RxInv, idleRx, over, Turn, Good, Inv}

@@ -22,10 +22,10 @@ use Rattle.queue.proofs.KeptLaws.{NoEop, Live, gone-kept}
 use Rattle.queue.proofs.StoreLaws.{Same3}
 use Rattle.queue.proofs.RoomyLaws.{roomy-same3}
 use Rattle.queue.proofs.FreshLaws.{fresh-same3}
-use Rattle.controller.specs.declared.Sending.{Sending}
-use Rattle.controller.specs.declared.Sending.the-variants as S
-use Rattle.controller.specs.declared.Receiving.{Receiving}
-use Rattle.controller.specs.declared.Receiving.the-variants as R
+use Rattle.phases.specs.declared.Sending.{Sending}
+use Rattle.phases.specs.declared.Sending.the-variants as S
+use Rattle.phases.specs.declared.Receiving.{Receiving}
+use Rattle.phases.specs.declared.Receiving.the-variants as R
 use Rattle.safety.proofs.Inv.{Sendable, Long, Fillable, Ready, Spot, Latch, Owned, Through, placeAfter, Fetched, TxInv, Taken, RxInv}
 
 pub kept-part : (P : ℕ → Type 0) (w : ℕ → ℕ) (n : Mode) (q : List ℕ) → All P q → All P (kept w n q)

@@ -18,10 +18,10 @@ use Rattle.queue.specs.Queue as queue
 use Rattle.queue.proofs.LinkLaws.{all-join, start-append}
 use Rattle.queue.proofs.KeptLaws.{Live}
 use Rattle.queue.proofs.FreshLaws.{fresh-join}
-use Rattle.controller.specs.declared.Sending.{Sending}
-use Rattle.controller.specs.declared.Sending.the-variants as S
-use Rattle.controller.specs.declared.Receiving.{Receiving}
-use Rattle.controller.specs.declared.Receiving.the-variants as R
+use Rattle.phases.specs.declared.Sending.{Sending}
+use Rattle.phases.specs.declared.Sending.the-variants as S
+use Rattle.phases.specs.declared.Receiving.{Receiving}
+use Rattle.phases.specs.declared.Receiving.the-variants as R
 use Rattle.safety.proofs.Inv.{Sendable, Fillable, Ready, Spot, Latched, Latch, Owned, Through, placeAfter, Fetched, TxInv, Taken, RxInv}
 
 -- ---- descriptors

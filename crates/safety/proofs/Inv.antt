@@ -37,17 +37,17 @@ use Rattle.registers.specs.Pending.{tornDown}
 use Rattle.queue.specs.Queue.{start, All, Linked, Sole, Recorded, Fresh}
 use Rattle.queue.specs.Queue as queue
 use Rattle.queue.proofs.KeptLaws.{NoEop, Live}
-use Rattle.controller.specs.declared.Packet.{Packet}
-use Rattle.controller.specs.declared.Reading.{Reading}
-use Rattle.controller.specs.declared.Closing.{Closing}
-use Rattle.controller.specs.declared.Sending.{Sending}
-use Rattle.controller.specs.declared.Sending.the-variants as S
-use Rattle.controller.specs.declared.Frame.{Frame}
-use Rattle.controller.specs.declared.Storing.{Storing}
-use Rattle.controller.specs.declared.Filled.{Filled}
-use Rattle.controller.specs.declared.Stored.{Stored}
-use Rattle.controller.specs.declared.Receiving.{Receiving}
-use Rattle.controller.specs.declared.Receiving.the-variants as R
+use Rattle.phases.specs.declared.Packet.{Packet}
+use Rattle.phases.specs.declared.Reading.{Reading}
+use Rattle.phases.specs.declared.Closing.{Closing}
+use Rattle.phases.specs.declared.Sending.{Sending}
+use Rattle.phases.specs.declared.Sending.the-variants as S
+use Rattle.phases.specs.declared.Frame.{Frame}
+use Rattle.phases.specs.declared.Storing.{Storing}
+use Rattle.phases.specs.declared.Filled.{Filled}
+use Rattle.phases.specs.declared.Stored.{Stored}
+use Rattle.phases.specs.declared.Receiving.{Receiving}
+use Rattle.phases.specs.declared.Receiving.the-variants as R
 use Rattle.machine.specs.Machine.{Machine}
 use Rattle.safety.proofs.View.{Post, Common, Store, View, build, marksOf, waiting, wordsOf, leftT, leftR}
 

@@ -35,8 +35,8 @@ use Rattle.guard.specs.declared.Effect.the-variants.{Plain}
 use Rattle.guard.specs.Answers.{numberOf, Outcome, accept, refuse}
 use Rattle.guard.specs.Judges.{judge}
 use Rattle.guard.specs.Guard.{inReception, judgeKind, admitted, guestWrite, kindChange}
-use Rattle.controller.specs.declared.Sending.{Sending}
-use Rattle.controller.specs.declared.Sending.the-variants as S
+use Rattle.phases.specs.declared.Sending.{Sending}
+use Rattle.phases.specs.declared.Sending.the-variants as S
 use Rattle.controller.specs.Controller.{unguardedWrite}
 use Rattle.machine.specs.Machine.{Machine, Happened, worldOf, carriedOut, Op, write, kind, frame, step, apply, applyWrite, applyKind, applyFrame, applyStep}
 use Rattle.safety.proofs.View.{View, wordsOf}

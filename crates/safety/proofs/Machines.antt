@@ -24,12 +24,13 @@ use Rattle.queue.proofs.RecordLaws.{recorded-empty}
 use Rattle.queue.proofs.KeptLaws.{kept-linked}
 use Rattle.queue.proofs.FreshLaws.{fresh-live}
 use Rattle.guard.specs.Answers.{numberOf}
-use Rattle.controller.specs.declared.Receiving.{Receiving}
-use Rattle.controller.specs.declared.Receiving.the-variants as R
-use Rattle.controller.specs.declared.Sending.the-variants as S
+use Rattle.phases.specs.declared.Receiving.{Receiving}
+use Rattle.phases.specs.declared.Receiving.the-variants as R
+use Rattle.phases.specs.declared.Sending.the-variants as S
+use Rattle.phases.specs.Quiet.{waits}
 use Rattle.controller.specs.declared.Engine.{Engine}
 use Rattle.controller.specs.declared.Engine.the-variants.{Reset, Transmit, Receive as Taking, TearTransmit, TearReceive}
-use Rattle.controller.specs.Controller.{Moved, unlessUndefined, stepOf, waits, held, Framed, frameOf, freshController}
+use Rattle.controller.specs.Controller.{Moved, unlessUndefined, stepOf, held, Framed, frameOf, freshController}
 use Rattle.machine.specs.Machine.{Machine, Op, frame, step, apply, answerOf, withCtl, applyFrame, applyStep, freshMachine}
 use Rattle.safety.specs.Statement.{Safe}
 use Rattle.safety.proofs.View.{Post, Common, View, build, ctlOf, wordsOf, modeOf, leftR, setRegs, takes}

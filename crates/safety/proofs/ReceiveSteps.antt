@@ -33,17 +33,17 @@ use Rattle.queue.proofs.LinkLaws.{all-right, all-map, start-zero}
 use Rattle.queue.proofs.KeptLaws.{kept-linked, kept-live}
 use Rattle.queue.proofs.StoreLaws.{Same, Same3, same-same3, Only, marked-only, last-marked-only}
 use Rattle.queue.proofs.FreshLaws.{length-fits, behind-buffer, fetch-good, fresh-live}
-use Rattle.controller.specs.declared.Burst.{Burst}
-use Rattle.controller.specs.declared.Burst.the-variants.{Quiet, Store}
-use Rattle.controller.specs.declared.Frame.{Frame}
-use Rattle.controller.specs.declared.Storing.{Storing}
-use Rattle.controller.specs.declared.Filled.{Filled}
-use Rattle.controller.specs.declared.Stored.{Stored}
-use Rattle.controller.specs.declared.Receiving.{Receiving}
-use Rattle.controller.specs.declared.Receiving.the-variants.{Idle, Wait, Fetch, Moving, Ended, Last, First, Done}
-use Rattle.controller.specs.declared.Takes.{Takes}
-use Rattle.controller.specs.declared.Takes.the-variants.{Went}
-use Rattle.controller.specs.Receive.{toPhase, tooLong, fetch, burstSize, advanced, storeBurst, close, markLast, markFirst, finish, takeStep}
+use Rattle.phases.specs.declared.Burst.{Burst}
+use Rattle.phases.specs.declared.Burst.the-variants.{Quiet, Store}
+use Rattle.phases.specs.declared.Frame.{Frame}
+use Rattle.phases.specs.declared.Storing.{Storing}
+use Rattle.phases.specs.declared.Filled.{Filled}
+use Rattle.phases.specs.declared.Stored.{Stored}
+use Rattle.phases.specs.declared.Receiving.{Receiving}
+use Rattle.phases.specs.declared.Receiving.the-variants.{Idle, Wait, Fetch, Moving, Ended, Last, First, Done}
+use Rattle.phases.specs.declared.Takes.{Takes}
+use Rattle.phases.specs.declared.Takes.the-variants.{Went}
+use Rattle.phases.specs.Receive.{toPhase, tooLong, fetch, burstSize, advanced, storeBurst, close, markLast, markFirst, finish, takeStep}
 use Rattle.controller.specs.Controller.{takeMoved, added, receiveStep}
 use Rattle.safety.specs.Statement.{InPlace}
 use Rattle.safety.proofs.View.{View, ctlOf, wordsOf, modeOf, leftR, setRegs, takes}

@@ -25,10 +25,10 @@ use Rattle.registers.specs.Pending.{tornDown, awaiting, anyTorn}
 use Rattle.registers.specs.Rules.{headFault, teardownFault, resetFault, registerFault, headWritten, ackWritten, teardownWritten, resetWritten, written}
 use Rattle.registers.proofs.RegisterLaws.{byClass-low, byClass-ack, byClass-mid, byClass-teardown, byClass-reset, byClass-rest}
 use Rattle.queue.specs.Queue.{start}
-use Rattle.controller.specs.declared.Sending.{Sending}
-use Rattle.controller.specs.declared.Sending.the-variants as S
-use Rattle.controller.specs.declared.Receiving.{Receiving}
-use Rattle.controller.specs.declared.Receiving.the-variants as R
+use Rattle.phases.specs.declared.Sending.{Sending}
+use Rattle.phases.specs.declared.Sending.the-variants as S
+use Rattle.phases.specs.declared.Receiving.{Receiving}
+use Rattle.phases.specs.declared.Receiving.the-variants as R
 use Rattle.controller.specs.Controller.{setRegs, setFlags}
 use Rattle.machine.specs.Machine.{Machine}
 use Rattle.safety.proofs.View.{Post, Common, View, ctlOf, regsOf, flagsOf, waiting, wordsOf}

@@ -31,9 +31,9 @@ use Rattle.queue.proofs.RoomyLaws.{room-now-lengths}
 use Rattle.guard.specs.declared.Effect.the-variants.{Started}
 use Rattle.guard.specs.Answers.{accept}
 use Rattle.guard.specs.Judges.{judgeChain, started, judgeStart}
+use Rattle.phases.specs.declared.Sending.the-variants as S
+use Rattle.phases.specs.declared.Receiving.the-variants as R
 use Rattle.controller.specs.declared.Controller.{Controller}
-use Rattle.controller.specs.declared.Sending.the-variants as S
-use Rattle.controller.specs.declared.Receiving.the-variants as R
 use Rattle.controller.specs.Controller.{answer, setBegun, registerWrite, setRegs as setCtlRegs, setFlags as setCtlFlags}
 use Rattle.machine.specs.Machine.{Machine}
 use Rattle.safety.proofs.View.{Post, View, ctlOf, regsOf, flagsOf, waiting, wordsOf, setRegs as setPost}

@@ -25,11 +25,12 @@ use Rattle.registers.specs.Pending.{tornDown, every}
 use Rattle.queue.specs.Queue.{start, Linked}
 use Rattle.queue.proofs.KeptLaws.{kept-linked, kept-whole, kept-torn}
 use Rattle.queue.proofs.StoreLaws.{marked-only}
-use Rattle.controller.specs.declared.Sending.{Sending}
-use Rattle.controller.specs.declared.Sending.the-variants as S
-use Rattle.controller.specs.declared.Receiving.{Receiving}
-use Rattle.controller.specs.declared.Receiving.the-variants as R
-use Rattle.controller.specs.Controller.{Moved, answer, quietTx, quietRx, tearMark, tearClear, tearReport, tearStep, resetStep}
+use Rattle.phases.specs.declared.Sending.{Sending}
+use Rattle.phases.specs.declared.Sending.the-variants as S
+use Rattle.phases.specs.declared.Receiving.{Receiving}
+use Rattle.phases.specs.declared.Receiving.the-variants as R
+use Rattle.phases.specs.Quiet.{quietTx, quietRx}
+use Rattle.controller.specs.Controller.{Moved, answer, tearMark, tearClear, tearReport, tearStep, resetStep}
 use Rattle.safety.proofs.View.{Post, Common, View, ctlOf, marksOf, waiting, wordsOf, modeOf, leftT, leftR, sends, takes}
 use Rattle.safety.proofs.Inv.{Sendable, Fillable, over, Shared, Turn, Good}
 use Rattle.descriptor.proofs.FlagLaws.{td-tdMark, tdMark-lt}

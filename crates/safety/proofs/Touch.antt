@@ -32,8 +32,8 @@ use Rattle.queue.proofs.SoleLaws.{count-append, sole-apart, sole-perm, sole-has
 use Rattle.queue.proofs.KeptLaws.{gone-kept, kept-agree}
 use Rattle.queue.proofs.RoomyLaws.{room-now-same}
 use Rattle.queue.proofs.StoreLaws.{Same, Same3, same-same3, same-nexts, same-flags, Only, Change, change}
-use Rattle.controller.specs.declared.Sending.{Sending}
-use Rattle.controller.specs.declared.Receiving.{Receiving}
+use Rattle.phases.specs.declared.Sending.{Sending}
+use Rattle.phases.specs.declared.Receiving.{Receiving}
 use Rattle.controller.specs.declared.Controller.{Controller}
 use Rattle.controller.specs.Controller.{Moved, answer}
 use Rattle.machine.specs.Machine.{withCtl}

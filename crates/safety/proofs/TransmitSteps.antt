@@ -32,16 +32,16 @@ use Rattle.queue.proofs.KeptLaws.{kept-linked, kept-live}
 use Rattle.queue.proofs.StoreLaws.{Same, Same3, same-same3, Only, marked-only}
 use Rattle.descriptor.proofs.RuleLaws.{ownFault-parts}
 use Rattle.queue.proofs.FreshLaws.{own-ends, LengthFits, length-fits, fetch-good, fresh-live}
-use Rattle.controller.specs.declared.Burst.{Burst}
-use Rattle.controller.specs.declared.Burst.the-variants.{Quiet, Read}
-use Rattle.controller.specs.declared.Reading.{Reading}
-use Rattle.controller.specs.declared.Finished.{Finished}
-use Rattle.controller.specs.declared.Closing.{Closing}
-use Rattle.controller.specs.declared.Sending.{Sending}
-use Rattle.controller.specs.declared.Sending.the-variants.{Idle, New, Within, Moving, Ended, Marking, Owning, Done}
-use Rattle.controller.specs.declared.Sends.{Sends}
-use Rattle.controller.specs.declared.Sends.the-variants.{Went, Unfit}
-use Rattle.controller.specs.Transmit.{toPhase, latched, fetch, advanced, readBurst, close, markEoq, octetsOf, clearOwn, finish as finished, sendStep}
+use Rattle.phases.specs.declared.Burst.{Burst}
+use Rattle.phases.specs.declared.Burst.the-variants.{Quiet, Read}
+use Rattle.phases.specs.declared.Reading.{Reading}
+use Rattle.phases.specs.declared.Finished.{Finished}
+use Rattle.phases.specs.declared.Closing.{Closing}
+use Rattle.phases.specs.declared.Sending.{Sending}
+use Rattle.phases.specs.declared.Sending.the-variants.{Idle, New, Within, Moving, Ended, Marking, Owning, Done}
+use Rattle.phases.specs.declared.Sends.{Sends}
+use Rattle.phases.specs.declared.Sends.the-variants.{Went, Unfit}
+use Rattle.phases.specs.Transmit.{toPhase, latched, fetch, advanced, readBurst, close, markEoq, octetsOf, clearOwn, finish as finished, sendStep}
 use Rattle.controller.specs.Controller.{sendMoved, added, held, transmitStep}
 use Rattle.safety.specs.Statement.{InPlace}
 use Rattle.safety.proofs.View.{View, ctlOf, wordsOf, modeOf, leftT, setRegs, sends}

@@ -19,8 +19,8 @@ use Rattle.registers.specs.declared.Flags.{Flags}
 use Rattle.book.specs.declared.Mode.{Mode}
 use Rattle.book.specs.Release.{releaseMode}
 use Rattle.queue.specs.Queue.{start, kept}
-use Rattle.controller.specs.declared.Sending.{Sending}
-use Rattle.controller.specs.declared.Receiving.{Receiving}
+use Rattle.phases.specs.declared.Sending.{Sending}
+use Rattle.phases.specs.declared.Receiving.{Receiving}
 use Rattle.controller.specs.declared.Controller.{Controller}
 use Rattle.machine.specs.Machine.{Machine}
 

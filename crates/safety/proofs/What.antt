@@ -31,10 +31,10 @@ use Rattle.guard.specs.declared.Answer.{Answer}
 use Rattle.guard.specs.Answers.{Outcome, numberOf, Gives}
 use Rattle.guard.specs.Judges.{judge}
 use Rattle.guard.specs.Guard.{admitted, guestWrite, judgeKind, kindChange}
-use Rattle.controller.specs.declared.Sending.{Sending}
-use Rattle.controller.specs.declared.Sending.the-variants as S
-use Rattle.controller.specs.declared.Receiving.{Receiving}
-use Rattle.controller.specs.declared.Receiving.the-variants as R
+use Rattle.phases.specs.declared.Sending.{Sending}
+use Rattle.phases.specs.declared.Sending.the-variants as S
+use Rattle.phases.specs.declared.Receiving.{Receiving}
+use Rattle.phases.specs.declared.Receiving.the-variants as R
 use Rattle.machine.specs.Machine.{Machine, Op, write, kind, apply, runOps, worldOf, carriedOut, applyWrite, applyKind, freshMachine}
 use Rattle.safety.specs.Statement.{Legal, AllLegal}
 use Rattle.safety.proofs.View.{View, build}

@@ -26,8 +26,8 @@ use Rattle.blocks.specs.Kinds.{fitKinds}
 use Rattle.blocks.specs.Room.{permits}
 use Rattle.book.specs.World.{unfit, soundWorld}
 use Rattle.guard.specs.Answers.{numberOf}
-use Rattle.controller.specs.declared.Burst.{Burst}
-use Rattle.controller.specs.declared.Burst.the-variants.{Quiet, Read, Store}
+use Rattle.phases.specs.declared.Burst.{Burst}
+use Rattle.phases.specs.declared.Burst.the-variants.{Quiet, Read, Store}
 use Rattle.machine.specs.Machine.{Machine, Op, write, kind, frame, step, apply, runOps, worldOf, freshMachine}
 
 -- "Guest writes are whole 32-bit words"; block numbers, kinds and frame lengths may be any

@@ -2,8 +2,8 @@
 use mathlib.Core.Path.{_∙_, sym, ap}
 use Prim.Native.Nat.{ℕ}
 use Rattle.layout.proofs.ChoiceLaws.{yes-of, no-of}
+use Rattle.phases.specs.declared.Receiving.the-variants.{Fetch}
 use Rattle.controller.specs.declared.Controller.{Controller}
-use Rattle.controller.specs.declared.Receiving.the-variants.{Fetch}
 use Rattle.controller.specs.Controller.{framed, setRx}
 use Rattle.controller.proofs.EntryLaws.{frame-undefined, frame-empty, frame-long, frame-headless, frame-busy, frame-held, frame-taken}
 use borrow.Author.Needs.{needs}

@@ -3,9 +3,10 @@
 use Prim.Native.Nat.{ℕ}
 use mathlib.Core.Path.{_∙_, sym, ap}
 use mathlib.Core.List.{List}
-use Rattle.controller.specs.declared.Takes.{Takes}
+use Rattle.phases.specs.declared.Takes.{Takes}
+use Rattle.phases.proofs.StepLaws.{take-unfit}
 use Rattle.controller.specs.Controller.{takeMoved, undefine, receiveStep}
-use Rattle.controller.proofs.StepLaws.{take-unfit, take-at}
+use Rattle.controller.proofs.StepLaws.{take-at}
 use borrow.Author.Needs.{needs}
 use Rattle.controller.proofs.steps.receive_step.Statement.{statement}
 use Rattle.controller.proofs.steps.receive_step.Tie as tie

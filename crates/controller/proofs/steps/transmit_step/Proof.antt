@@ -3,9 +3,10 @@
 use Prim.Native.Nat.{ℕ}
 use mathlib.Core.Path.{_∙_, sym, ap}
 use mathlib.Core.List.{List}
-use Rattle.controller.specs.declared.Sends.{Sends}
+use Rattle.phases.specs.declared.Sends.{Sends}
+use Rattle.phases.proofs.StepLaws.{send-unfit}
 use Rattle.controller.specs.Controller.{sendMoved, undefine, transmitStep}
-use Rattle.controller.proofs.StepLaws.{send-unfit, send-at}
+use Rattle.controller.proofs.StepLaws.{send-at}
 use borrow.Author.Needs.{needs}
 use Rattle.controller.proofs.steps.transmit_step.Statement.{statement}
 use Rattle.controller.proofs.steps.transmit_step.Tie as tie

@@ -1,0 +1,3 @@
+pub mod Transmit
+pub mod Receive
+pub mod Quiet
