@@ -4,9 +4,9 @@
  * the guard, which answers with a number. 0: the store may be carried out. Anything else: it must not be. The guard keeps a book of what
  * has been handed to the DMA engine, so that what was judged cannot be changed while the engine uses it.
  *
- * Each function below is proved to give, for every input, the answer and the arrays that the definitions in crates/guard/specs give on
- * the state in the arrays (crates/api/specs, `called` and `crossed`). The proofs are about the compiled module's source, on x86-64;
- * tools/retarget makes the object for the board from the same module, and says what is not proved of it.
+ * Each function below is proved to give, for every input, the answer and the arrays that the definitions in crates/guard/specs and
+ * crates/kinds/specs give on the state in the arrays (crates/api/specs, `Crosses`). The proofs are about the compiled module's source, on
+ * x86-64; tools/retarget makes the object for the board from the same module, and says what is not proved of it.
  *
  * ONE CALL IS ONE WHOLE EVENT. Reading the device, the call, and carrying out the accepted store must not be interleaved with another
  * guard call, on any processor: take a lock around the three. The guard keeps no state of its own; all of it is lent by the caller.
@@ -17,28 +17,29 @@
  *                    the accepted store out on the device as one word; whoever lends the device's own memory answers for this.
  *   kinds, blocks    one byte for each 4 KiB block of RAM from 0x80000000: 0 not Linux's, 1 Linux data, 2 Linux executable, 3 first-level
  *                    page table, 4 second-level page table. 1 to 16,384 of them. Only gresomund_kind_change may change it.
- *   state            the small state, below. The caller fills in the five registers before every call, as the device has them.
+ *   state            the small state, below, which the guard reads and changes where it lies. The caller fills in the five registers before
+ *                    every call, as the device has them; only the guard may change the rest.
  *   used             one byte for each word of descriptor memory: 1 while it is in use. Only the guard may change it.
  *   lens             one length for each word of descriptor memory, kept at the first word of each receive descriptor in use.
  *                    Only the guard may change it.
  *
- * WHAT COMES BACK. One word: see gresomund_number, gresomund_effect and gresomund_side. `state`, `used`, `lens`, `mem` and `kinds` are
- * then as the answer says: after 1 and 2 nothing has changed; after any other refusal only descriptors that the engine is done with were
- * released from the book; after 0 the write is in the book.
+ * WHAT COMES BACK. One word: see gresomund_number, gresomund_effect, gresomund_side and gresomund_channel. `state`, `used`, `lens`, `mem`
+ * and `kinds` are then as the answer says: after 1 and 2 nothing has changed; after any other refusal only descriptors that the engine is
+ * done with were released from the book; after 0 the write is in the book.
  *
  * WHAT THE CALLER DOES, in order:
- *   1. state.hdp, state.cp and state.bit are read from the device (TX0_HDP, RX0_HDP, TX0_CP, RX0_CP, bit 0 of CPDMA_SOFT_RESET), and
- *      `mem` is brought up to date.
+ *   1. state.hdp, state.cp and state.bit are read from the device (TX0_HDP, RX0_HDP, TX0_CP, RX0_CP, CPDMA_SOFT_RESET), and `mem` is
+ *      brought up to date.
  *   2. The call.
  *   3. On 0, exactly that store (address, value) is carried out on the device; on 4, the guard has no opinion, and the handler does as it
  *      does for the page; on anything else it is dropped.
  * After 3 the registers in `state` are forgotten: they are read again for the next call.
  *
  * WHICH ENTRY. gresomund_guest_write and gresomund_kind_change may be called on any arrays: what is unfit is answered 1, what is unsound
- * 2. Those named _sound do not look, and cost less: they may be called only where mem_len is 8,192, blocks is 1 to 16,384, no kind is
- * over 4 and the book is sound. That is so when it was begun by gresomund_fresh with an idle device, and the book and the kinds were
- * since changed by nothing but these functions, and words in use were changed by nothing but the device. Called on anything else they
- * promise nothing, not even to stay within the arrays.
+ * 2. Those named _sound do not look, and cost less: they may be called only where the others answer neither 1 nor 2. That is so when
+ * mem_len is 8,192, blocks is 1 to 16,384 and no kind is over 4, the book was begun by gresomund_fresh with an idle device, book and kinds
+ * were since changed by nothing but these functions, and words in use were changed by nothing but the device. Called on anything else
+ * they promise nothing, not even to stay within the arrays.
  *
  * The object needs memset and memmove, nothing else. Its deepest stack does not grow with the chain: below 3 KiB in the board's object, 3,248
  * bytes in the x86-64 archive (docs/PERFORMANCE.md, measured by tests/c). */
@@ -55,24 +56,28 @@ extern "C" {
 #define GRESOMUND_MEM_BYTES 8192u
 #define GRESOMUND_WORDS 2048u           /* words of descriptor memory: entries of `used` and of `lens` */
 #define GRESOMUND_BLOCKS_MAX 16384u
+#define GRESOMUND_QUEUES 2u             /* queue 0 transmits, queue 1 receives: 2 * channel + side */
 
-/* Queue 0 transmits, queue 1 receives. Sixteen words without padding; a flag is 0 or 1. */
+/* What CP reads once a teardown has finished, until it is acknowledged. The teardowns that are still pending are `tearing`, below. */
+#define GRESOMUND_TEARDOWN_DONE 0xFFFFFFFCu
+
+/* The guard's own table, in this order: twelve words without padding. */
 struct gresomund_state {
-  uint32_t heads[2]; /* the book: address of each queue's first descriptor, 0 for an empty queue */
-  uint32_t marks[4]; /* the book: TX0_HDP, RX0_HDP, TX0_CP, RX0_CP have been zeroed since the last reset */
-  uint32_t reset;    /* the book: a reset is pending */
-  uint32_t torn[2];  /* the book: a teardown of that queue is pending */
-  uint32_t hdp[2];   /* the device, read before each call: TX0_HDP, RX0_HDP */
-  uint32_t cp[2];    /* the device, read before each call: TX0_CP, RX0_CP */
-  uint32_t bit;      /* the device, read before each call: bit 0 of CPDMA_SOFT_RESET */
-  uint32_t spare[2]; /* never read, never changed */
+  uint32_t heads[GRESOMUND_QUEUES]; /* the book: address of each queue's first descriptor, 0 for an empty queue */
+  uint32_t hdp[GRESOMUND_QUEUES];   /* the device, read before each call: TX0_HDP, RX0_HDP */
+  uint32_t cp[GRESOMUND_QUEUES];    /* the device, read before each call: TX0_CP, RX0_CP */
+  uint32_t marks;                   /* the book, a mask: which registers were zeroed since the last reset; bit q is HDP of queue q, bit GRESOMUND_QUEUES + q its CP */
+  uint32_t tearing;                 /* the book, a mask: bit q is set while a teardown of queue q is pending */
+  uint32_t reset;                   /* the book: 1 while a reset is pending, else 0 */
+  uint32_t bit;                     /* the device, read before each call: CPDMA_SOFT_RESET, of which bit 0 is read and no other */
+  uint32_t spare[2];                /* never read, never changed */
 };
 
 /* The refusal numbers; the lowest that applies is given. docs/REFUSALS.md says who meets which, and what to change. */
 enum gresomund_number {
   GRESOMUND_ACCEPTED = 0,
   GRESOMUND_UNFIT = 1,           /* mem_len is not 8,192, blocks is not 1..16,384, or a kind is over 4 */
-  GRESOMUND_UNSOUND = 2,         /* the book is not sound, or a flag word is neither 0 nor 1 (whatever else is wrong) */
+  GRESOMUND_UNSOUND = 2,         /* the book is not sound, `marks` or `tearing` has a bit of no register or queue, or `reset` is over 1 */
   GRESOMUND_UNALIGNED = 3,       /* address not a multiple of 4 */
   GRESOMUND_NOT_GUARDED = 4,     /* address not guarded */
   GRESOMUND_NOT_OFFERED = 5,     /* register not offered */
@@ -97,13 +102,14 @@ enum gresomund_number {
 /* What an accepted call did. An accepted kind change is plain. */
 enum gresomund_effect { GRESOMUND_NONE = 0, GRESOMUND_PLAIN = 1, GRESOMUND_STARTED = 2, GRESOMUND_APPENDED = 3 };
 
-/* On which side it started or appended; 0 for anything else. */
+/* On which side it started or appended; 0 for anything else. The channel is 0 for now. */
 enum gresomund_side { GRESOMUND_NO_SIDE = 0, GRESOMUND_TRANSMIT = 1, GRESOMUND_RECEIVE = 2 };
 
-/* The three parts of an answer. */
+/* The four parts of an answer. */
 static inline unsigned gresomund_number(uint32_t answer) { return answer & 255u; }
 static inline unsigned gresomund_effect(uint32_t answer) { return (answer >> 8) & 255u; }
 static inline unsigned gresomund_side(uint32_t answer) { return (answer >> 16) & 255u; }
+static inline unsigned gresomund_channel(uint32_t answer) { return answer >> 24; }
 
 /* An empty book that awaits the four zeros, and zero registers. For an idle device: at the start, or after a reset. */
 void gresomund_fresh(struct gresomund_state *state, uint8_t used[GRESOMUND_WORDS], uint16_t lens[GRESOMUND_WORDS]);

@@ -1,5 +1,5 @@
 #!/usr/bin/env python3
-"""tools/benchtext.py: pack(unpack(x)) == x for every x, and the lines read as written.
+"""tools/benchtext.py: pack(unpack(x)) == x for every x, and the lines read as written. A batch of random files is one test.
 
     python3 tests/benchtext_test.py [FILE.bench ..]
 """
@@ -74,12 +74,15 @@ def main():
             check("mistake " + line, True)
 
     rng = random.Random(1)
-    for i in range(1500):
-        x = some_file(rng)
-        check("round trip %d" % i, benchtext.pack(benchtext.unpack(x)) == x)
-    for i in range(500):
-        x = rng.randbytes(rng.randint(0, 40))
-        check("noise %d" % i, benchtext.pack(benchtext.unpack(x)) == x)
+
+    def round_trips(name, files):
+        """A batch of random files is one test."""
+        files = list(files)
+        wrong = [x.hex() for x in files if benchtext.pack(benchtext.unpack(x)) != x]
+        check("round trips of %d %s: %s" % (len(files), name, wrong[:1]), not wrong)
+
+    round_trips("generated files", (some_file(rng) for _ in range(1500)))
+    round_trips("files of noise", (rng.randbytes(rng.randint(0, 40)) for _ in range(500)))
     for path in sys.argv[1:]:
         with open(path, "rb") as f:
             x = f.read()
@@ -88,9 +91,8 @@ def main():
     def tool(verb, given):
         return subprocess.run([sys.executable, TOOL, verb], input=given, stdout=subprocess.PIPE, check=True).stdout
 
-    for i in range(5):
-        x = some_file(rng)
-        check("as a program %d" % i, tool("pack", tool("unpack", x)) == x)
+    files = [some_file(rng) for _ in range(5)]
+    check("as a program", all(tool("pack", tool("unpack", x)) == x for x in files))
     print("%d passed, %d failed" % (passed, failed))
     return 1 if failed else 0
 

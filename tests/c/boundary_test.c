@@ -1,5 +1,6 @@
-/* The boundary from C: bad lengths, empty slices, unsound books, and one of each kind of call. Last line 'N passed, M failed'. */
+/* The boundary from C: bad lengths, empty slices, unsound books, flags, and one of each kind of call. Last line 'N passed, M failed'. */
 #include "scene.h"
+#include <stddef.h>
 #include <stdio.h>
 
 static int passed, failed;
@@ -22,8 +23,15 @@ static uint32_t with(uint8_t *mem, uint64_t n, const uint8_t *kinds, uint64_t bl
 }
 
 static void layout(void) {
-  check("sixteen words", sizeof(struct gresomund_state), 64);
-  check("the reset bit is word 13", (uint32_t)((uint8_t *)&s.state.bit - (uint8_t *)&s.state), 52);
+  check("twelve words", sizeof(struct gresomund_state), 48);
+  check("heads are words 0 and 1", offsetof(struct gresomund_state, heads), 0);
+  check("HDPs are words 2 and 3", offsetof(struct gresomund_state, hdp), 8);
+  check("CPs are words 4 and 5", offsetof(struct gresomund_state, cp), 16);
+  check("the marks are word 6", offsetof(struct gresomund_state, marks), 24);
+  check("the teardowns are word 7", offsetof(struct gresomund_state, tearing), 28);
+  check("the reset is word 8", offsetof(struct gresomund_state, reset), 32);
+  check("its bit is word 9", offsetof(struct gresomund_state, bit), 36);
+  check("the rest is spare", offsetof(struct gresomund_state, spare), 40);
 }
 
 static void unfit(void) {
@@ -63,15 +71,73 @@ static void unsound(void) {
   begin(&s, 4), s.state.heads[0] = at(0), unsound_after("a chain whose words are not in use");
   begin(&s, 4), s.state.heads[1] = 0x4A103FF4, unsound_after("a head that is no good pointer");
   begin(&s, 4), s.state.heads[0] = at(0), put(&s, at(0), at(0)), unsound_after("a chain that loops");
-  uint32_t *words = (uint32_t *)&s.state;
-  static const int flags[8] = {2, 3, 4, 5, 6, 7, 8, 13};
-  for (int i = 0; i < 8; i++) {
-    begin(&s, 4), words[flags[i]] = 2, unsound_after("a flag word that is 2");
-    begin(&s, 4), words[flags[i]] = 0x100, unsound_after("a flag word that is 256");
+  begin(&s, 4), s.state.marks |= 1u << 4, unsound_after("a mark of no register");
+  begin(&s, 4), s.state.marks |= 1u << 31, unsound_after("the highest mark");
+  begin(&s, 4), s.state.tearing = 1u << 2, unsound_after("a teardown of no queue");
+  begin(&s, 4), s.state.tearing = 1u << 31, unsound_after("the highest teardown");
+  begin(&s, 4), s.state.reset = 2, unsound_after("a reset that is 2");
+  begin(&s, 4), s.state.reset = 0x100, unsound_after("a reset that is 256");
+  begin(&s, 4), s.state.spare[0] = 77, s.state.spare[1] = ~0u;
+  check("spare words are not read", write_full(&s, at(0), 1), answer(0, 1, 0));
+  check("spare words stay", s.state.spare[0] == 77 && s.state.spare[1] == ~0u, 1);
+}
+
+/* 1 comes before 2, whichever part is unsound, and 2 before all that the write itself is refused for. */
+static void ranks(void) {
+  static const char *const what[4] = {"1 before a mark of no register", "1 before a teardown of no queue", "1 before a reset that is 2", "1 before an unsound book"};
+  for (int i = 0; i < 4; i++) {
+    begin(&s, 4);
+    if (i == 0) s.state.marks = 1u << 4;
+    if (i == 1) s.state.tearing = 1u << 2;
+    if (i == 2) s.state.reset = 2;
+    if (i == 3) s.used[7] = 1;
+    before = s;
+    check(what[i], with(s.mem, GRESOMUND_MEM_BYTES - 1, s.kinds, 4), 1);
+    check(what[i], with(s.mem, GRESOMUND_MEM_BYTES, s.kinds, 0), 1);
+    check(what[i], gresomund_kind_change(1, 2, s.mem, 0, s.kinds, 4, &s.state, s.used, s.lens), 1);
+    check("2 before 3", write_full(&s, 0x4A102001, 1), 2);
+    check("2 before 18", change(&s, 4, 1), 2);
+    same(what[i]);
+    s.kinds[3] = 5, before = s;
+    check(what[i], write_full(&s, at(0), 1), 1);
+    check(what[i], change(&s, 1, 2), 1);
+    same(what[i]);
   }
-  begin(&s, 4), words[14] = 77;
-  check("a spare word is not read", write_full(&s, at(0), 1), answer(0, 1, 0));
-  check("a spare word stays", words[14], 77);
+}
+
+/* The masks of the book, and the device's reset register, of which bit 0 alone is read. */
+static void flags(void) {
+  static const uint32_t zeros[4] = {TX_HDP, RX_HDP, TX_CP, RX_CP}, clear[3] = {0, 2, 0xFFFFFFFE}, set[3] = {1, 3, 0xFFFFFFFF};
+  begin(&s, 4);
+  for (int i = 0; i < 4; i++) {
+    gresomund_fresh(&s.state, s.used, s.lens);
+    check("a zero", write_full(&s, zeros[i], 0), answer(0, 1, 0));
+    check("its mark, and no other", s.state.marks, 1u << i);
+  }
+  begin(&s, 4);
+  check("all four marks", s.state.marks, 15);
+  check("a receive teardown", write_full(&s, RX_TEARDOWN, 0), answer(0, 1, 0));
+  check("is bit 1", s.state.tearing, 2);
+  check("a transmit teardown", write_full(&s, TX_TEARDOWN, 0), answer(0, 1, 0));
+  check("is bit 0", s.state.tearing, 3);
+  check("no reset meanwhile", write_full(&s, SOFT_RESET, 1), 8);
+  s.state.cp[1] = GRESOMUND_TEARDOWN_DONE;
+  check("one has finished", write_full(&s, RX_TEARDOWN, 0), 10);
+  check("the other is pending", s.state.tearing, 1);
+  check("the code is acknowledged", write_full(&s, RX_CP, GRESOMUND_TEARDOWN_DONE), answer(0, 1, 0));
+  check("and gone from CP", s.state.cp[1], 0);
+  for (int i = 0; i < 3; i++) {
+    begin(&s, 4);
+    check("a reset", write_full(&s, SOFT_RESET, 1), answer(0, 1, 0));
+    check("is pending, with its bit", s.state.reset == 1 && s.state.bit == 1, 1);
+    s.state.bit = set[i], before = s;
+    check("while bit 0 is set", write_full(&s, TX_HDP, at(0)), 7);
+    same("nothing is over");
+    s.state.bit = clear[i];
+    check("once bit 0 is clear", write_full(&s, TX_HDP, at(0)), 6);
+    check("the reset is over, and the four zeros are awaited", s.state.reset == 0 && s.state.marks == 0, 1);
+    check("its register stays as it was read", s.state.bit, clear[i]);
+  }
 }
 
 static void numbers(void) {
@@ -88,7 +154,9 @@ static void numbers(void) {
 static void traffic(void) {
   begin(&s, 4);
   chain(&s, 0, 1, 1);
-  check("a start", write_full(&s, TX_HDP, at(0)), answer(0, 2, 1));
+  uint32_t started = write_full(&s, TX_HDP, at(0));
+  check("a start", started, answer(0, 2, 1));
+  check("its channel", gresomund_channel(started), 0);
   check("the head is in the book", s.state.heads[0], at(0));
   check("the register was set", s.state.hdp[0], at(0));
   check("its words are in use", s.used[0] + s.used[1] + s.used[2] + s.used[3] + s.used[4], 4);
@@ -129,7 +197,7 @@ static void fresh(void) {
 
 /* Both entries on the same sound states: the same answer, the same arrays. */
 static void entries(void) {
-  static const uint32_t where[] = {TX_HDP, RX_HDP, TX_CP, RX_CP, 0x4A100808, 0x4A100818, 0x4A10081C, 0x4A100820, 0x4A100900, 0x4A100A04};
+  static const uint32_t where[] = {TX_HDP, RX_HDP, TX_CP, RX_CP, TX_TEARDOWN, RX_TEARDOWN, SOFT_RESET, 0x4A100820, 0x4A100900, 0x4A100A04};
   uint32_t seed = 1, bad = 0;
   begin(&s, 8);
   for (int i = 0; i < 20000; i++) {
@@ -152,7 +220,7 @@ static void entries(void) {
 }
 
 int main(void) {
-  layout(), unfit(), unsound(), numbers(), traffic(), fresh(), entries();
+  layout(), unfit(), unsound(), ranks(), flags(), numbers(), traffic(), fresh(), entries();
   printf("%d passed, %d failed\n", passed, failed);
   return failed != 0;
 }

@@ -10,7 +10,7 @@
 struct call {
   int kind;          /* a kind change */
   uint32_t a, v;     /* address and value, or block and kind */
-  uint32_t regs[5];  /* the registers before it: hdp, hdp, cp, cp, bit */
+  uint32_t regs[2 * GRESOMUND_QUEUES + 1]; /* the registers before it: hdp, hdp, cp, cp, bit */
   uint32_t answer;   /* the second model's */
   unsigned to;       /* the controller's stores before this call end here */
 };
@@ -64,7 +64,9 @@ static void choose_steady(void) {
 /* What the controller did before call i. */
 static void meanwhile(struct scene *s, unsigned i) {
   for (unsigned k = i ? calls[i - 1].to : 0; k < calls[i].to; k++) put(s, GRESOMUND_MEM_FIRST + 4 * stores[k].word, stores[k].value);
-  memcpy(s->state.hdp, calls[i].regs, sizeof calls[i].regs);
+  const uint32_t *regs = calls[i].regs;
+  for (unsigned q = 0; q < GRESOMUND_QUEUES; q++) s->state.hdp[q] = regs[q], s->state.cp[q] = regs[GRESOMUND_QUEUES + q];
+  s->state.bit = regs[2 * GRESOMUND_QUEUES];
 }
 
 static const char *const sorts[] = {"stores to free words", "appends", "acknowledgements (CP)", "starts (HDP)", "other registers, accepted", "kind changes", "refused", 0};

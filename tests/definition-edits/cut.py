@@ -7,7 +7,7 @@ import pathlib
 import re
 import shutil
 
-USE = re.compile(r"^(?:pub )?use Rattle·([a-z]+)(?:·(?:specs|proofs))?\.(specs|proofs)\.([A-Za-z]+)", re.M)
+USE = re.compile(r"^(?:pub )?use Rattle·(\w+)(?:·(?:specs|proofs))?\.(specs|proofs)\.(\w+)", re.M)
 
 
 def crates_of(repo):

@@ -26,8 +26,8 @@ static void meanwhile(void) {
   if (h && any(8) == 0) put(&s, h + 12, get(&s, h + 12) ^ (any(2) ? EOQ : EOP));
   if (h && any(40) == 0) put(&s, h + 12, get(&s, h + 12) | 0x08000000);
   if (any(3) == 0) s.state.hdp[q] = any(3) ? s.state.heads[q] : 0;
-  if (any(5) == 0) s.state.cp[q] = any(3) ? at(any(16)) : 0xFFFFFFFCu;
-  if (any(8) == 0) s.state.bit = any(2);
+  if (any(5) == 0) s.state.cp[q] = any(3) ? at(any(16)) : GRESOMUND_TEARDOWN_DONE;
+  if (any(8) == 0) s.state.bit = any(2) ? any(2) : any(16) << 28 | any(4);
 }
 
 int main(void) {
@@ -39,7 +39,13 @@ int main(void) {
     uint32_t a = any(2) ? where[any(14)] : at(any(16)) + 4 * (any(3) ? 0 : any(4)) + (any(50) == 0), v = any(3) ? at(any(16)) : any(4), x, y;
     if (i % 300 < 4) a = where[i % 300 & 1] + 64 * (i % 300 >> 1), v = 0;
     t = s;
-    if (any(200) == 0) t.used[any(2048)] ^= 1; /* an unsound book, for one call */
+    switch (any(1000)) { /* for one call: an unsound book, flags of nothing, a kind over 4, or two of these */
+    case 0: case 1: case 2: t.used[any(2048)] ^= 1; break;
+    case 3: t.state.marks |= 16u << any(28); break;
+    case 4: t.state.tearing |= 4u << any(30); break;
+    case 5: t.state.reset = any(9); break;
+    case 6: t.kinds[any(8)] = 5, t.state.reset = any(9); break;
+    }
     struct scene keep = s;
     s = t;
     if (any(6) == 0) {
@@ -50,7 +56,7 @@ int main(void) {
     }
     numbers[gresomund_number(x) & 31]++;
     if (x != y || memcmp(&s, &t, sizeof s) != 0) bad++;
-    if (gresomund_number(x) == 2) s = keep;
+    if (gresomund_number(x) == 1 || gresomund_number(x) == 2) s = keep;
   }
   printf("answers met:");
   for (int i = 0; i < 32; i++) if (numbers[i]) printf(" %d:%u", i, numbers[i]);

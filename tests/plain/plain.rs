@@ -4,7 +4,9 @@
 
 const FIRST: u32 = 0x4A10_2000;
 const LAST: u32 = 0x4A10_3FF0;
-const TORN_DOWN: u32 = 0xFFFF_FFFC;
+const TEARDOWN_DONE: u32 = 0xFFFF_FFFC;
+const QUEUES: usize = 2;
+const ALL_MARKS: u32 = (1 << (2 * QUEUES)) - 1;
 const SOP: u32 = 1 << 31;
 const EOP: u32 = 1 << 30;
 const OWNER: u32 = 1 << 29;
@@ -13,12 +15,12 @@ const TD: u32 = 1 << 27;
 
 #[repr(C)]
 pub struct State {
-    heads: [u32; 2],
-    marks: [u32; 4],
+    heads: [u32; QUEUES],
+    hdp: [u32; QUEUES],
+    cp: [u32; QUEUES],
+    marks: u32,
+    tearing: u32,
     reset: u32,
-    torn: [u32; 2],
-    hdp: [u32; 2],
-    cp: [u32; 2],
     bit: u32,
     spare: [u32; 2],
 }
@@ -59,9 +61,12 @@ impl Guard<'_> {
     }
 
     fn sound(&self) -> bool {
+        if self.s.marks > ALL_MARKS || self.s.tearing >> QUEUES != 0 || self.s.reset > 1 {
+            return false;
+        }
         let mut met = [0u8; 2048];
         let mut lens = [0u16; 2048];
-        for q in 0..2 {
+        for q in 0..QUEUES {
             let mut p = self.s.heads[q];
             while p != 0 {
                 let Some(d) = index(p) else { return false };
@@ -88,21 +93,21 @@ impl Guard<'_> {
     }
 
     fn release(&mut self) {
-        if self.s.reset == 1 && self.s.bit == 0 {
-            for q in 0..2 {
+        if self.s.reset == 1 && self.s.bit & 1 == 0 {
+            for q in 0..QUEUES {
                 while let Some(d) = index(self.s.heads[q]) {
                     self.drop_at(q, d);
                 }
             }
             self.s.reset = 0;
-            self.s.marks = [0; 4];
+            self.s.marks = 0;
         }
-        for q in 0..2 {
-            if self.s.torn[q] == 1 && self.s.cp[q] == TORN_DOWN {
-                self.s.torn[q] = 0;
+        for q in 0..QUEUES {
+            if self.s.cp[q] == TEARDOWN_DONE {
+                self.s.tearing &= !(1 << q);
             }
         }
-        for q in 0..2 {
+        for q in 0..QUEUES {
             while let Some(d) = index(self.s.heads[q]) {
                 let flags = self.word(d + 3);
                 let mut all = flags & TD != 0;
@@ -214,7 +219,7 @@ impl Guard<'_> {
             return PLAIN;
         }
         if self.word(k) == 0 && v != 0 {
-            for q in 0..2 {
+            for q in 0..QUEUES {
                 if self.last(q, k) {
                     let n = self.chain(q, v);
                     if n != 0 {
@@ -230,7 +235,7 @@ impl Guard<'_> {
     }
 
     fn register(&mut self, a: u32, v: u32) -> Said {
-        let waits = self.s.marks != [1; 4];
+        let waits = self.s.marks != ALL_MARKS;
         let no = |n: u32| (n, 0, 0);
         match a & 0xFFF {
             x @ (0xA00 | 0xA20 | 0xA40 | 0xA60) if waits => {
@@ -239,7 +244,7 @@ impl Guard<'_> {
                     return no(6);
                 }
                 if cp { self.s.cp[q] = 0 } else { self.s.hdp[q] = 0 }
-                self.s.marks[q + 2 * cp as usize] = 1;
+                self.s.marks |= 1 << (q + QUEUES * cp as usize);
                 PLAIN
             }
             x @ (0xA00 | 0xA20) => {
@@ -247,7 +252,7 @@ impl Guard<'_> {
                 if self.s.reset == 1 {
                     return no(7);
                 }
-                if self.s.torn[q] == 1 {
+                if self.s.tearing >> q & 1 == 1 {
                     return no(8);
                 }
                 if v == 0 {
@@ -280,16 +285,16 @@ impl Guard<'_> {
                 if self.s.reset == 1 {
                     return no(7);
                 }
-                if self.s.torn[q] == 1 {
+                if self.s.tearing >> q & 1 == 1 {
                     return no(8);
                 }
                 if v != 0 {
                     return no(9);
                 }
-                if self.s.cp[q] == TORN_DOWN {
+                if self.s.cp[q] == TEARDOWN_DONE {
                     return no(10);
                 }
-                self.s.torn[q] = 1;
+                self.s.tearing |= 1 << q;
                 PLAIN
             }
             0x81C => {
@@ -299,7 +304,7 @@ impl Guard<'_> {
                 if self.s.reset == 1 {
                     return no(7);
                 }
-                if self.s.torn != [0; 2] {
+                if self.s.tearing != 0 {
                     return no(8);
                 }
                 if v != 1 {
@@ -366,10 +371,6 @@ macro_rules! entry {
             let (mem, kinds) = unsafe { (core::slice::from_raw_parts_mut(mem, n as usize), core::slice::from_raw_parts_mut(kinds, blocks as usize)) };
             let mut g = Guard { mem, kinds, s, used, lens };
             if $whole {
-                let s = &g.s;
-                if [s.marks[0], s.marks[1], s.marks[2], s.marks[3], s.reset, s.torn[0], s.torn[1], s.bit].iter().any(|&w| w > 1) {
-                    return 2;
-                }
                 if !g.fit() {
                     return 1;
                 }

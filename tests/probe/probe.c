@@ -8,17 +8,21 @@
 #include <stdlib.h>
 #include <string.h>
 
-/* crates/rig: the controller record in words, as crates/rig/specs/Record.antt lays it out. */
-enum { HDP = 0, CP = 2, BIT = 4, MARKS = 5, RESET = 9, TORN = 10, STAGES = 12, UNDEFINED = 14, TX = 15, RX = 23, WORDS = 32 };
-uint32_t gresomund_step(uint32_t engine, uint8_t *mem, uint64_t mem_len, uint32_t words[WORDS], uint64_t totals[2], uint32_t burst[3]);
-uint32_t gresomund_unguarded(uint32_t address, uint32_t value, uint8_t *mem, uint64_t mem_len, uint32_t words[WORDS], uint64_t totals[2],
+/* crates/rig: the controller record in parts, as crates/rig/specs/Record.antt has them. Its registers and flags are a table like the guard's. */
+enum { CHANNELS = GRESOMUND_QUEUES / 2, TX_ROW = 8, RX_ROW = 9 };
+enum { SENT = 0, RECEIVED = 1, UNDEFINED = 2, REST = 3 };
+uint32_t gresomund_step(uint8_t engine, uint8_t channel, uint8_t *mem, uint64_t mem_len, struct gresomund_state *table, uint8_t stages[GRESOMUND_QUEUES],
+                        uint32_t tx[CHANNELS][TX_ROW], uint32_t rx[CHANNELS][RX_ROW], uint64_t rest[REST], uint32_t burst[3]);
+uint32_t gresomund_unguarded(uint32_t address, uint32_t value, uint8_t *mem, uint64_t mem_len, struct gresomund_state *table,
+                             uint8_t stages[GRESOMUND_QUEUES], uint32_t tx[CHANNELS][TX_ROW], uint32_t rx[CHANNELS][RX_ROW], uint64_t rest[REST],
                              uint32_t burst[3]);
-uint32_t gresomund_frame(uint32_t n, uint32_t words[WORDS], uint64_t totals[2]);
+uint32_t gresomund_frame(uint32_t n, struct gresomund_state *table, uint8_t stages[GRESOMUND_QUEUES], uint32_t tx[CHANNELS][TX_ROW],
+                         uint32_t rx[CHANNELS][RX_ROW], uint64_t rest[REST]);
 
 enum { GUEST_WRITE = 0, KIND_CHANGE = 1, FRAME = 2, STEP = 3, UNGUARDED = 4 };
 enum { MEMORY_LIMIT = 8200 };
 
-/* All that a call may see or change. Registers stand in `state` for a guard call and in `words` for the others. */
+/* All that a call may see or change. Registers stand in `state` for a guard call and in `table` for the others. */
 struct all {
   uint8_t mem[MEMORY_LIMIT];
   uint64_t mem_len;
@@ -27,9 +31,13 @@ struct all {
   struct gresomund_state state;
   uint8_t used[GRESOMUND_WORDS];
   uint16_t lens[GRESOMUND_WORDS];
-  uint32_t words[WORDS];
-  uint64_t totals[2];
+  struct gresomund_state table; /* the controller's registers and flags; it has no heads */
+  uint8_t stages[GRESOMUND_QUEUES];
+  uint32_t tx[CHANNELS][TX_ROW], rx[CHANNELS][RX_ROW];
+  uint64_t rest[REST];
 };
+
+enum { ALL_MARKS = (1 << 2 * GRESOMUND_QUEUES) - 1, ALL_TEARING = (1 << GRESOMUND_QUEUES) - 1 };
 
 /* ---- reading: little-endian numbers off the front of the input */
 static const uint8_t *at, *end;
@@ -61,12 +69,10 @@ static void read_kinds(struct all *s) {
 }
 
 static void read_book(struct all *s) {
-  for (int i = 0; i < 2; i++) s->state.heads[i] = (uint32_t)number(4);
-  uint64_t marks = number(1);
-  for (int i = 0; i < 4; i++) s->state.marks[i] = marks >> i & 1;
+  for (unsigned q = 0; q < GRESOMUND_QUEUES; q++) s->state.heads[q] = (uint32_t)number(4);
+  s->state.marks = number(1) & ALL_MARKS;
   s->state.reset = number(1) & 1;
-  uint64_t torn = number(1);
-  for (int i = 0; i < 2; i++) s->state.torn[i] = torn >> i & 1;
+  s->state.tearing = number(1) & ALL_TEARING;
   for (uint64_t n = number(2); n > 0 && !cut; n--) {
     uint64_t i = number(2) % GRESOMUND_WORDS;
     s->used[i] = (uint8_t)number(1);
@@ -78,23 +84,26 @@ static void read_book(struct all *s) {
 }
 
 static void read_record(struct all *s) {
-  uint32_t *w = s->words;
-  for (int i = 0; i < 4; i++) w[HDP + i] = (uint32_t)number(4);
-  w[BIT] = number(1) & 1;
-  uint64_t marks = number(1);
-  for (int i = 0; i < 4; i++) w[MARKS + i] = marks >> i & 1;
-  w[RESET] = number(1) & 1;
-  uint64_t torn = number(1);
-  for (int i = 0; i < 2; i++) w[TORN + i] = torn >> i & 1;
-  for (int i = 0; i < 2; i++) w[STAGES + i] = (uint32_t)number(1);
-  w[UNDEFINED] = number(1) & 1;
-  for (int i = 0; i < 2; i++) s->totals[i] = number(8);
-  w[TX] = number(1) % 8;
-  for (int i = 1; i < 8; i++) w[TX + i] = (uint32_t)number(4);
-  w[TX + 7] &= 1;
-  w[RX] = number(1) % 8;
-  for (int i = 1; i < 8; i++) w[RX + i] = (uint32_t)number(4);
-  w[RX + 8] = number(1) & 1;
+  struct gresomund_state *t = &s->table;
+  for (unsigned q = 0; q < GRESOMUND_QUEUES; q++) t->hdp[q] = (uint32_t)number(4);
+  for (unsigned q = 0; q < GRESOMUND_QUEUES; q++) t->cp[q] = (uint32_t)number(4);
+  t->bit = number(1) & 1;
+  t->marks = number(1) & ALL_MARKS;
+  t->reset = number(1) & 1;
+  t->tearing = number(1) & ALL_TEARING;
+  for (unsigned q = 0; q < GRESOMUND_QUEUES; q++) s->stages[q] = (uint8_t)number(1);
+  s->rest[UNDEFINED] = number(1) & 1;
+  s->rest[SENT] = number(8);
+  s->rest[RECEIVED] = number(8);
+  for (int c = 0; c < CHANNELS; c++) {
+    uint32_t *tx = s->tx[c], *rx = s->rx[c];
+    tx[0] = number(1) % 8;
+    for (int i = 1; i < TX_ROW; i++) tx[i] = (uint32_t)number(4);
+    tx[TX_ROW - 1] &= 1;
+    rx[0] = number(1) % 8;
+    for (int i = 1; i < RX_ROW - 1; i++) rx[i] = (uint32_t)number(4);
+    rx[RX_ROW - 1] = number(1) & 1;
+  }
 }
 
 /* ---- printing */
@@ -115,8 +124,7 @@ static void print_memory(const struct all *s) {
 
 static void print_book(const struct all *s) {
   const struct gresomund_state *b = &s->state;
-  uint32_t marks = b->marks[0] + 2 * b->marks[1] + 4 * b->marks[2] + 8 * b->marks[3];
-  printf("H %u %u %u %u %u\nU", b->heads[0], b->heads[1], marks, b->reset, b->torn[0] + 2 * b->torn[1]);
+  printf("H %u %u %u %u %u\nU", b->heads[0], b->heads[1], b->marks, b->reset, b->tearing);
   for (unsigned i = 0; i < GRESOMUND_WORDS; i++)
     if (s->used[i] != 0) printf(" %u:%u", i, s->used[i]);
   printf("\nL");
@@ -125,17 +133,21 @@ static void print_book(const struct all *s) {
   printf("\n");
 }
 
+/* "stages as 1, 2, 3" */
+static unsigned stage(uint8_t n) { return n == 1 || n == 2 ? n : 3; }
+
 static void print_record(const struct all *s) {
-  const uint32_t *w = s->words;
-  printf("R %u %u %u %u %u\n", w[HDP], w[HDP + 1], w[CP], w[CP + 1], w[BIT]);
-  uint32_t marks = w[MARKS] + 2 * w[MARKS + 1] + 4 * w[MARKS + 2] + 8 * w[MARKS + 3];
-  printf("C %u %u %u %u %u %u %llu %llu\n", marks, w[RESET], w[TORN] + 2 * w[TORN + 1], w[STAGES], w[STAGES + 1], w[UNDEFINED],
-         (unsigned long long)s->totals[0], (unsigned long long)s->totals[1]);
-  printf("T");
-  for (int i = TX; i < RX; i++) printf(" %u", w[i]);
-  printf("\nX");
-  for (int i = RX; i < WORDS; i++) printf(" %u", w[i]);
-  printf("\n");
+  const struct gresomund_state *t = &s->table;
+  printf("R %u %u %u %u %u\n", t->hdp[0], t->hdp[1], t->cp[0], t->cp[1], t->bit);
+  printf("C %u %u %u %u %u %u %llu %llu\n", t->marks, t->reset, t->tearing, stage(s->stages[0]), stage(s->stages[1]), (unsigned)s->rest[UNDEFINED],
+         (unsigned long long)s->rest[SENT], (unsigned long long)s->rest[RECEIVED]);
+  for (int c = 0; c < CHANNELS; c++) {
+    printf("T");
+    for (int i = 0; i < TX_ROW; i++) printf(" %u", s->tx[c][i]);
+    printf("\nX");
+    for (int i = 0; i < RX_ROW; i++) printf(" %u", s->rx[c][i]);
+    printf("\n");
+  }
 }
 
 /* ---- calls */
@@ -148,23 +160,24 @@ static uint32_t guard(struct all *s, unsigned call, uint32_t a, uint32_t b, int 
 }
 
 /* "What a phase does not use is .. printed as 0": which numbers each phase uses, for calls that pass the record by. */
-static void drop_unused(uint32_t *w) {
+static void drop_unused(struct all *s) {
   static const uint8_t tx[8] = {0, 0, 7, 127, 103, 35, 35, 32}, rx[8] = {0, 0, 7, 63, 55, 227, 195, 64}; /* bit i: number i */
-  for (int i = 0; i < 7; i++)
-    if (!(tx[w[TX]] >> i & 1)) w[TX + 1 + i] = 0;
-  for (int i = 0; i < 8; i++)
-    if (!(rx[w[RX]] >> i & 1)) w[RX + 1 + i] = 0;
-  for (int i = 0; i < 2; i++)
-    if (w[STAGES + i] != 1 && w[STAGES + i] != 2) w[STAGES + i] = 3;
+  for (int c = 0; c < CHANNELS; c++) {
+    uint32_t *t = s->tx[c], *r = s->rx[c];
+    for (int i = 0; i < TX_ROW - 1; i++)
+      if (!(tx[t[0]] >> i & 1)) t[1 + i] = 0;
+    for (int i = 0; i < RX_ROW - 1; i++)
+      if (!(rx[r[0]] >> i & 1)) r[1 + i] = 0;
+  }
 }
 
 /* A guard call, by both entries where the state is fit and sound. The registers are those of the record. */
 static uint32_t call_guard(struct all *s, unsigned call, uint32_t a, uint32_t b) {
-  memcpy(s->state.hdp, s->words + HDP, sizeof s->state.hdp);
-  memcpy(s->state.cp, s->words + CP, sizeof s->state.cp);
-  s->state.bit = s->words[BIT];
+  memcpy(s->state.hdp, s->table.hdp, sizeof s->state.hdp);
+  memcpy(s->state.cp, s->table.cp, sizeof s->state.cp);
+  s->state.bit = s->table.bit;
   memset(s->state.spare, 0xA5, sizeof s->state.spare);
-  drop_unused(s->words);
+  drop_unused(s);
   other = *s;
   uint32_t answer = guard(s, call, a, b, 0);
   unsigned refusal = gresomund_number(answer);
@@ -180,9 +193,9 @@ static uint32_t call_guard(struct all *s, unsigned call, uint32_t a, uint32_t b)
       exit(1);
     }
   }
-  memcpy(s->words + HDP, s->state.hdp, sizeof s->state.hdp);
-  memcpy(s->words + CP, s->state.cp, sizeof s->state.cp);
-  s->words[BIT] = s->state.bit;
+  memcpy(s->table.hdp, s->state.hdp, sizeof s->state.hdp);
+  memcpy(s->table.cp, s->state.cp, sizeof s->state.cp);
+  s->table.bit = s->state.bit;
   return answer;
 }
 
@@ -202,9 +215,9 @@ static void run_case(struct all *s, unsigned call, uint32_t a, uint32_t b) {
   switch (call) {
   case GUEST_WRITE: answer = call_guard(s, call, a, b); break;
   case KIND_CHANGE: answer = call_kind(s, a, b); break;
-  case FRAME: answer = gresomund_frame(a, s->words, s->totals); break;
-  case UNGUARDED: answer = gresomund_unguarded(a, b, s->mem, s->mem_len, s->words, s->totals, burst); break;
-  default: answer = gresomund_step(a % 5, s->mem, s->mem_len, s->words, s->totals, burst);
+  case FRAME: answer = gresomund_frame(a, &s->table, s->stages, s->tx, s->rx, s->rest); break;
+  case UNGUARDED: answer = gresomund_unguarded(a, b, s->mem, s->mem_len, &s->table, s->stages, s->tx, s->rx, s->rest, burst); break;
+  default: answer = gresomund_step(a % 5, 0, s->mem, s->mem_len, &s->table, s->stages, s->tx, s->rx, s->rest, burst);
   }
   if (call == GUEST_WRITE || call == KIND_CHANGE || call == FRAME) memset(burst, 0, sizeof burst); /* these make none */
   printf("A %u %u %u\nB %u %u %u\n", gresomund_number(answer), gresomund_effect(answer), gresomund_side(answer), burst[0], burst[1], burst[2]);

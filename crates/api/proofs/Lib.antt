@@ -1,3 +1,2 @@
 pub mod CrossingLaws
-pub mod StateLaws
-pub mod QuietLaws
+pub mod Settled

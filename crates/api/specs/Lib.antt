@@ -1,3 +1,1 @@
-pub mod State
 pub mod Crossing
-pub mod Quiet

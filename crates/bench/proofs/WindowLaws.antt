@@ -7,8 +7,8 @@ use mathlib.Core.Bool.{Bool, true, false}
 use mathlib.Core.List.{List}
 use mathlib.Core.Logic.{_⊎_, inl, inr, _≢_}
 use native.Mathlib.Omega.{arith}
-use lib.ListN.{length, getD, take, drop, length-take, length-drop}
-use lib.Dec.{eqb, leb, lit≤}
+use lib.ListN.{length, take, drop, length-take, length-drop}
+use lib.Dec.{leb}
 use borrow.Author.Tests.{leb-true}
 use Rattle.layout.specs.Choice.{pick, both}
 use Rattle.layout.specs.Layout.{blocksMax}
@@ -18,43 +18,19 @@ use Rattle.records.specs.declared.Record.{Record}
 use Rattle.records.specs.declared.Record.the-variants.{Ram, Write, Kind, Frame, Steps}
 use Rattle.records.specs.declared.Decoded.{Decoded}
 use Rattle.records.specs.declared.Decoded.the-variants.{End, Good, Bad}
-use Rattle.records.specs.Records.{u16At, u32At, marked, needs, decodeRam, decodeSteps, decodeLater, decode}
+use Rattle.records.specs.Records.{u16At, marked, decodeRam, decode}
 use Rattle.records.specs.Lines.{lineMax, Prints}
+use Rattle.records.proofs.SizeLaws.{decode-sized}
 use Rattle.records.proofs.PrintLaws.{length-prints}
 use Rattle.bench.specs.Bench.{sizeOf}
 
-size-pick : (t : Bool) (x y : Decoded) (l : ℕ) → sizeOf x ≤ l → sizeOf y ≤ l → sizeOf (pick t x y) ≤ l
-size-pick true x y l h k = h
-size-pick false x y l h k = k
-
-size-when : (t : Bool) (n l : ℕ) (d : Decoded) → leb n l ≡ t → sizeOf d ≤ n → sizeOf (pick t d Bad) ≤ l
-size-when true n l d e h = omega (arith, leb-true n l e, h)
-size-when false n l d e h = omega arith
-
-size-needs : (n : ℕ) (bs : List ℕ) (d : Decoded) → sizeOf d ≤ n → sizeOf (needs n bs d) ≤ length bs
-size-needs n bs d h = size-when (leb n (length bs)) n (length bs) d refl h
-
-size-steps : (bs : List ℕ) → sizeOf (decodeSteps bs) ≤ length bs
-size-steps bs = size-needs 4 bs _ (size-pick (both (leb (getD bs 2 0) 4) (leb 1 (getD bs 3 0))) _ _ 4 (lit≤ tt) (lit≤ tt))
-
-size-later : (bs : List ℕ) → sizeOf (decodeLater bs) ≤ length bs
-unfolding decodeLater
-size-later bs =
-    size-pick (marked 71 87 bs) _ _ _ (size-needs 10 bs _ (lit≤ tt))
-    (size-pick (marked 75 67 bs) _ _ _ (size-needs 5 bs _ (lit≤ tt))
-    (size-pick (marked 70 82 bs) _ _ _ (size-needs 4 bs _ (lit≤ tt))
-    (size-pick (marked 83 84 bs) _ _ _ (size-steps bs) (omega arith))))
-
-size-decode : (bs : List ℕ) → sizeOf (decode false bs) ≤ length bs
-unfolding decode
-size-decode bs =
-    size-pick (eqb (length bs) 0) _ _ _ (omega arith) (size-pick (leb 2 (length bs)) _ _ _ (size-later bs) (omega arith))
-
 pub size-decoded : (bs : List ℕ) (d : Decoded) → d ≡ decode false bs → sizeOf d ≤ length bs
-size-decoded bs d e = rw e (size-decode bs)
+size-decoded bs End e = omega arith
+size-decoded bs (Good r n) e = decode-sized bs false r n (sym e) .1
+size-decoded bs Bad e = omega arith
 
 abbrev Fit : ℕ → ℕ → Type 0
-Fit l n = (n ≡ 0) ⊎ ((n ≤ 16384) × (n + 4 ≤ l))
+Fit l n = (n ≡ 0) ⊎ ((n ≤ blocksMax) × (n + 4 ≤ l))
 
 abbrev inRecord : Record → ℕ
 inRecord (Ram n) = n
@@ -86,7 +62,7 @@ unfolding decode
 ram-decode bs = ram-when (leb 2 (length bs)) (length bs) _ (λ _. ram-when (marked 82 77 bs) (length bs) _ (λ _. ram-fits bs))
 
 pub ram-decoded : (bs : List ℕ) (d : Decoded) (r : Record) (n s : ℕ) → d ≡ decode true bs → d ≡ Good r s → r ≡ Ram n
-    → (n ≡ 0) ⊎ ((n ≤ 16384) × (n + 4 ≤ length bs))
+    → (n ≡ 0) ⊎ ((n ≤ blocksMax) × (n + 4 ≤ length bs))
 ram-decoded bs d r n s e f g =
     subst (λ (k : ℕ). Fit (length bs) k) (ap ramOf (sym e ∙ f) ∙ ap inRecord g) (ram-decode bs)
 
@@ -99,7 +75,7 @@ next-fits input from len d h e =
     omega (arith, h .0, size, size-decoded part d e)
 
 pub first-fits : (input : List ℕ) (got : ℕ) (d : Decoded) (r : Record) (n s : ℕ) → got ≤ length input
-    → d ≡ decode true (take (got - 0) (drop 0 input)) → d ≡ Good r s → r ≡ Ram n → (n ≡ 0) ⊎ ((n ≤ 16384) × (n + 4 ≤ got))
+    → d ≡ decode true (take (got - 0) (drop 0 input)) → d ≡ Good r s → r ≡ Ram n → (n ≡ 0) ⊎ ((n ≤ blocksMax) × (n + 4 ≤ got))
 first-fits input got d r n s h e f g =
     let part = take (got - 0) (drop 0 input) in
     let size : length part ≡ got = simp (length-take, length-drop) (omega (arith, h)) in
@@ -113,7 +89,7 @@ pub good-fits : (f l : ℕ) {d : Decoded} {r : Record} {n : ℕ} → d ≡ Good 
 good-fits f l e h = subst (λ (k : ℕ). f + k ≤ l) (ap sizeOf e) h
 
 -- an N that is not 0 is one that was decoded
-pub there : (n l : ℕ) → (n ≡ 0) ⊎ ((n ≤ 16384) × (n + 4 ≤ l)) → n ≢ 0 → (n ≤ 16384) × (n + 4 ≤ l)
+pub there : (n l : ℕ) → (n ≡ 0) ⊎ ((n ≤ blocksMax) × (n + 4 ≤ l)) → n ≢ 0 → (n ≤ blocksMax) × (n + 4 ≤ l)
 there n l (inl e) h = absurd (h e)
 there n l (inr k) h = k
 

@@ -3,7 +3,6 @@
 --     Holds s       the window lies in the input buffer, and the lines gathered leave room for those of any record
 -- Assumes nothing: these are definitions.
 use Prim.Native.Nat.{ℕ, _≤_}
-use Rattle.records.specs.declared.Record.{Record}
 use Rattle.records.specs.declared.Decoded.{Decoded}
 use Rattle.records.specs.declared.Decoded.the-variants.{End, Good, Bad}
 use Rattle.bench.specs.declared.Run.{Run}

@@ -1,19 +1,26 @@
 // The bench: reads records from standard input, plays them on a fresh machine, and prints their lines, as document 01, "The bench", has it.
 // The input is read in large pieces, and before each record the buffer holds all of it; the lines are gathered and written in pieces too.
 
-use book::Book;
 use controller::Controller;
+use layout::BLOCKS_MAX;
+use layout::DESC_BYTES;
+use layout::DESC_WORDS;
+use layout::Lengths;
+use layout::Words;
 use libc::STDOUT_FILENO;
 use records::Decoded;
 use records::Record;
 use records::decode_record;
+use registers::STATE;
+use registers::State;
 use replay::Played;
 use replay::play;
 use replay::put_totals;
 ghost use mathlib.Core.Path.{_≡_};
-ghost use Prim.Native.Nat.{_+_, _*_, _≤_, _<_};
+ghost use Prim.Native.Nat.{_+_, _≤_, _<_};
 ghost use mathlib.Core.Logic.{_⊎_};
 ghost use lib.ListN.{length};
+ghost use Rattle.layout.specs.Layout.{blocksMax, descBytes, descWords};
 ghost use Rattle.bench.specs.Bench.{sizeOf, Holds};
 
 // An `RM` record has at most 4 + 65,535 bytes by its form and 16,388 by its rule; any other far fewer.
@@ -32,38 +39,37 @@ struct Window {
     ended: bool,
 }
 
-// The run between two records: the machine's small parts, where the next line goes, the window, and the next record's offset.
+// The run between two records: the controller, where the next line goes, the window, and the next record's offset.
 struct Run {
     ctl: Controller,
-    book: Book,
     at: usize,
     window: Window,
     offset: u64,
     going: bool,
 }
 
-fn kinds_table() -> [u8; 16384]
-    ensures { λ r. ⌜ 16384 ≡ length r ⌝ }
+fn kinds_table() -> [u8; BLOCKS_MAX]
+    ensures { λ r. ⌜ blocksMax ≡ length r ⌝ }
 {
-    [0; 16384]
+    [0; BLOCKS_MAX]
 }
 
-fn descriptors() -> [u8; 8192]
-    ensures { λ r. ⌜ 8192 ≡ length r ⌝ }
+fn descriptors() -> [u8; DESC_BYTES]
+    ensures { λ r. ⌜ descBytes ≡ length r ⌝ }
 {
-    [0; 8192]
+    [0; DESC_BYTES]
 }
 
-fn no_words() -> [u8; 2048]
-    ensures { λ r. ⌜ 2048 ≡ length r ⌝ }
+fn no_words() -> Words
+    ensures { λ r. ⌜ descWords ≡ length r ⌝ }
 {
-    [0; 2048]
+    [0; DESC_WORDS]
 }
 
-fn no_lengths() -> [u16; 2048]
-    ensures { λ r. ⌜ 2048 ≡ length r ⌝ }
+fn no_lengths() -> Lengths
+    ensures { λ r. ⌜ descWords ≡ length r ⌝ }
 {
-    [0; 2048]
+    [0; DESC_WORDS]
 }
 
 // Moves the bytes from `from` to `len` to the front.
@@ -152,7 +158,7 @@ fn next_record(input: &[u8], from: usize, len: usize) -> Decoded
 }
 
 // The run is over: nothing is left to be read or written.
-fn stop(c: Controller, b: Book, offset: u64) -> Run
+fn stop(c: Controller, offset: u64) -> Run
     ensures { λ s. ⌜ Holds s ⌝ }
 {
     let window = Window {
@@ -162,7 +168,6 @@ fn stop(c: Controller, b: Book, offset: u64) -> Run
     };
     Run {
         ctl: c,
-        book: b,
         at: 0,
         window,
         offset,
@@ -176,7 +181,6 @@ fn go_on(p: Played, w: Window, n: usize, offset: u64) -> Run
     ensures { λ s. ⌜ Holds s ⌝ }
 {
     let ctl = p.ctl;
-    let book = p.book;
     let window = Window {
         from: w.from + n,
         len: w.len,
@@ -184,7 +188,6 @@ fn go_on(p: Played, w: Window, n: usize, offset: u64) -> Run
     };
     Run {
         ctl,
-        book,
         at: p.end,
         window,
         offset: pass_over(offset, n),
@@ -197,11 +200,11 @@ fn act(
     d: Decoded,
     w: Window,
     c: Controller,
-    b: Book,
     m: &mut [u8],
     kinds: &mut [u8],
-    used: &mut [u8; 2048],
-    lens: &mut [u16; 2048],
+    t: &mut State,
+    used: &mut Words,
+    lens: &mut Lengths,
     out: &mut [u8],
     at: usize,
     offset: u64,
@@ -212,13 +215,13 @@ fn act(
     match d {
         Decoded::End => {
             finish_sent(out, at, c);
-            stop(c, b, offset)
+            stop(c, offset)
         }
         Decoded::Bad => {
             finish_bad(out, at, offset);
-            stop(c, b, offset)
+            stop(c, offset)
         }
-        Decoded::Good(r, n) => { go_on(play(r, c, b, m, kinds, used, lens, out, at), w, n, offset) }
+        Decoded::Good(r, n) => { go_on(play(r, c, m, kinds, t, used, lens, out, at), w, n, offset) }
     }
 }
 
@@ -228,8 +231,9 @@ fn take_turn(
     s: Run,
     m: &mut [u8],
     kinds: &mut [u8],
-    used: &mut [u8; 2048],
-    lens: &mut [u16; 2048],
+    t: &mut State,
+    used: &mut Words,
+    lens: &mut Lengths,
     out: &mut [u8],
 ) -> Run
     requires { ⌜ (length (now input) ≡ 65536) × (length (now out) ≡ 65536) × Holds s ⌝ }
@@ -239,7 +243,7 @@ fn take_turn(
     let w = refill(input, old.from, old.len, old.ended);
     let at = flush(out, s.at);
     let d = next_record(input, w.from, w.len);
-    act(d, w, s.ctl, s.book, m, kinds, used, lens, out, at, s.offset)
+    act(d, w, s.ctl, m, kinds, t, used, lens, out, at, s.offset)
 }
 
 // How many turns are left: none once the run is over.
@@ -259,8 +263,9 @@ fn replay_rest(
     first: Run,
     m: &mut [u8],
     kinds: &mut [u8],
-    used: &mut [u8; 2048],
-    lens: &mut [u16; 2048],
+    t: &mut State,
+    used: &mut Words,
+    lens: &mut Lengths,
     out: &mut [u8],
 )
     requires { ⌜ (length (now input) ≡ 65536) × (length (now out) ≡ 65536) × Holds first ⌝ }
@@ -268,7 +273,7 @@ fn replay_rest(
     let mut s = first;
     let mut turns = u64::MAX;
     while 0 < turns {
-        s = take_turn(input, s, m, kinds, used, lens, out);
+        s = take_turn(input, s, m, kinds, t, used, lens, out);
         turns = turns_left(turns, s.going);
     }
 }
@@ -276,7 +281,7 @@ fn replay_rest(
 // N of the first record: 0 where it is none.
 fn count_kinds(input: &[u8], got: usize) -> usize
     requires { ⌜ got ≤ length (now input) ⌝ }
-    ensures { λ n. ⌜ (n ≡ 0) ⊎ ((n ≤ 16384) × (n + 4 ≤ got)) ⌝ }
+    ensures { λ n. ⌜ (n ≡ 0) ⊎ ((n ≤ blocksMax) × (n + 4 ≤ got)) ⌝ }
 {
     let d = decode_record(&input[0..got], true);
     let Decoded::Good(r, _) = d else {
@@ -305,9 +310,6 @@ fn begin(size: usize, got: usize) -> Run
     ensures { λ s. ⌜ Holds s ⌝ }
 {
     let c = controller::fresh();
-    let heads = [0u32; 2];
-    let flags = c.flags;
-    let b = Book { heads, flags };
     let window = Window {
         from: size,
         len: got,
@@ -315,7 +317,6 @@ fn begin(size: usize, got: usize) -> Run
     };
     Run {
         ctl: c,
-        book: b,
         at: 0,
         window,
         offset: size as u64,
@@ -328,11 +329,12 @@ fn play_all(
     input: &mut [u8],
     m: &mut [u8],
     kinds: &mut [u8],
-    used: &mut [u8; 2048],
-    lens: &mut [u16; 2048],
+    t: &mut State,
+    used: &mut Words,
+    lens: &mut Lengths,
     out: &mut [u8],
 )
-    requires { ⌜ (length (now input) ≡ 65536) × (length (now out) ≡ 65536) × (length (now kinds) ≡ 16384) ⌝ }
+    requires { ⌜ (length (now input) ≡ 65536) × (length (now out) ≡ 65536) × (length (now kinds) ≡ blocksMax) ⌝ }
 {
     let got = io::read_full(0, input);
     let n = count_kinds(input, got);
@@ -346,6 +348,7 @@ fn play_all(
         begin(n + 4, got),
         m,
         &mut kinds[0..n],
+        t,
         used,
         lens,
         out,
@@ -357,12 +360,14 @@ fn main() {
     let mut out = io::large_buffer();
     let mut kinds = kinds_table();
     let mut m = descriptors();
+    let mut t = [0u32; STATE];
     let mut used = no_words();
     let mut lens = no_lengths();
     play_all(
         &mut input,
         &mut m,
         &mut kinds,
+        &mut t,
         &mut used,
         &mut lens,
         &mut out,

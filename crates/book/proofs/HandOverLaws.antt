@@ -1,6 +1,5 @@
 -- What the hand-over of a chain is, by cases, and that it ends. Assumes nothing.
 --     takeStep-falls           each step leaves fewer free words
---     freeAt-view              the words in use, asked as a set of words met
 --     takeStep-bad, -met, -go  one step, as the calls tell it
 --     taken-eq                 the recursion equation: one step, and then the hand-over from where it goes
 --     taken-bad, -met, -go     a pointer that names no free descriptor ends the chain; else its descriptor is taken
@@ -8,15 +7,14 @@
 use Prim.Native.Nat.{ℕ, _+_, _<_}
 use mathlib.Core.Path.{_≡_, refl, ap, _∙_, sym}
 use mathlib.Core.Bool.{Bool, true, false}
-use mathlib.Core.List.{List}
 use native.Mathlib.Omega.{arith}
 use Rattle.layout.specs.Choice.{pick}
 use Rattle.layout.specs.Run.{Next, go, stop, after}
 use Rattle.layout.specs.Layout.{goodPtr, wordOf}
 use Rattle.layout.specs.declared.Side.{Side}
 use Rattle.layout.proofs.RunLaws.{run-eq}
-use Rattle.words.specs.WordSet.{freeAt, freeCount, view}
-use Rattle.words.proofs.SetLaws.{freeCount-falls, view-is}
+use Rattle.words.specs.WordSet.{freeAt, freeCount}
+use Rattle.words.proofs.SetLaws.{freeCount-falls}
 use Rattle.book.specs.declared.Hop.{Hop}
 use Rattle.book.specs.declared.Hop.the-variants.{Go}
 use Rattle.book.specs.HandOver.{Uses, takeOne, takeStep, takenFrom}
@@ -52,10 +50,6 @@ takeStep-falls w side s t e =
     t
     refl
     e
-
--- the words in use as a set of words met
-pub freeAt-view : {r : Bool} (s : List ℕ) (d : ℕ) → r ≡ freeAt (view s) d → r ≡ freeAt s d
-freeAt-view s d e = e ∙ ap (λ (l : List ℕ). freeAt l d) (view-is s)
 
 module _ (w : ℕ → ℕ) (side : Side) (u : Uses) (p : ℕ) where
   -- ---- one step, as the calls tell it

@@ -1,3 +1,5 @@
 pub mod ReleaseLaws
 pub mod HandOverLaws
 pub mod SoundLaws
+pub mod HeadLaws
+pub mod QuietLaws

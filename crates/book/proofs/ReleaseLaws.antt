@@ -5,17 +5,14 @@
 --     released-bad, -free        a pointer that names no descriptor in use ends the queue
 --     released-keep, -drop       the plan for the descriptor at p: it stays with all behind it, or it goes and the release goes on
 --     released-turn, turn-falls  recursion and measure, as a function tells them that handles one descriptor
---     list-two                   a list of two is its two entries
---     releasedAll-two, -mode     the release of two queues; a mode that was told
---     settled-two, releasedFlags-over, -else   teardowns and flags of two queues
---     release-is                 a world whose parts are released is the released world
+--     releasedFlags-over, -else  the flags, where a reset is over, and where none is
+--     releasedBook-is            the queues in the mode that the flags give, and then the flags
+--     release-parts              a world of what the release of its book leaves is the released world
 use Prim.Native.Nat.{ℕ, _+_, _<_}
 use mathlib.Core.Path.{_≡_, refl, ap, _∙_, sym}
 use mathlib.Core.Bool.{Bool, true, false}
-use mathlib.Core.List.{List, [], _∷_}
+use mathlib.Core.List.{List}
 use native.Mathlib.Omega.{arith}
-use lib.ListN.{length, getD}
-use lib.Dec.{eqb}
 use Rattle.layout.specs.Choice.{pick}
 use Rattle.layout.specs.Run.{Next, go, stop, after}
 use Rattle.layout.specs.Layout.{goodPtr, wordOf}
@@ -23,19 +20,16 @@ use Rattle.layout.proofs.RunLaws.{run-eq}
 use Rattle.words.specs.Word.{word}
 use Rattle.words.specs.WordSet.{has, inUse}
 use Rattle.words.proofs.SetLaws.{has-true, inUse-falls}
-use Rattle.registers.specs.Pending.{tornDown}
-use Rattle.registers.specs.declared.Flags.{Flags}
-use Rattle.registers.specs.declared.Regs.{Regs}
-use Rattle.book.specs.declared.Book.{Book}
+use Rattle.registers.specs.Table.{tearingsOf, cpsOf, setTearings, unmarked}
 use Rattle.book.specs.declared.Mode.{Mode}
 use Rattle.book.specs.declared.Plan.{Plan}
 use Rattle.book.specs.declared.Plan.the-variants.{Keep, Drop}
 use Rattle.book.specs.declared.Turn.{Turn}
 use Rattle.book.specs.declared.Turn.the-variants.{Go}
 use Rattle.book.specs.HandOver.{Uses, dropOne}
-use Rattle.book.specs.Release.{RSt, ROut, plan, planned, releaseStep, releasedFrom, releasedAll, resetOver, settled, releasedFlags, releaseMode}
-use Rattle.book.specs.Hops.{turned}
+use Rattle.book.specs.Release.{RSt, ROut, plan, planned, releaseStep, releasedFrom, resetOver, settled, releasedFlags, releaseMode, releasedHeads, releasedBook}
 use Rattle.book.specs.World.{World, release}
+use Rattle.book.specs.Hops.{turned}
 
 -- ---- the measure
 
@@ -132,60 +126,27 @@ module _ (w : ℕ → ℕ) (u : Uses) (p : ℕ) (mode : Mode) where
     turn-falls next rest n e q =
         rw (← q) (releaseStep-falls w (u, p, mode) (v, next, rest) (sym told ∙ ap (λ (x : Turn). turned x p v) e))
 
--- ---- queues
+-- ---- the flags
 
--- a list of two is its two entries
-pub list-two : {A : Type 0} (l : List A) (a : A) → length l ≡ 2 → l ≡ getD l 0 a ∷ getD l 1 a ∷ []
-list-two [] a e = absurd (omega arith)
-list-two (x ∷ []) a e = absurd (omega arith)
-list-two (x ∷ y ∷ []) a e = refl
-list-two (x ∷ y ∷ z ∷ l) a e = absurd (omega arith)
-
-pub settled-two : (ts : List Bool) (cs : List ℕ) {a b : Bool} → length ts ≡ 2 → length cs ≡ 2
-    → a ≡ pick (eqb (getD cs 0 0) tornDown) false (getD ts 0 false) → b ≡ pick (eqb (getD cs 1 0) tornDown) false (getD ts 1 false)
-    → a ∷ b ∷ [] ≡ settled ts cs
-settled-two ts cs p q e f = rw (list-two ts false p, list-two cs 0 q, e, f) refl
-
-all-two : (w : ℕ → ℕ) (mode : Mode) (a b : ℕ) (u : Uses) {x y : ℕ} {v z : Uses} → (x, v) ≡ releasedFrom w u a mode → (y, z) ≡ releasedFrom w v b mode
-    → (x ∷ y ∷ [], z) ≡ releasedAll w mode (a ∷ b ∷ []) u
-unfolding releasedAll
-all-two w mode a b u {x} e f =
-    ap (λ (s : ROut). (x ∷ s .0 ∷ [], s .1)) f
-    ∙ ap (λ (s : ROut). (s .0 ∷ releasedFrom w (s .1) b mode .0 ∷ [], releasedFrom w (s .1) b mode .1)) e
-
-pub releasedAll-two : (w : ℕ → ℕ) (mode : Mode) (hs : List ℕ) (u : Uses) {x y : ℕ} {v z : Uses} → length hs ≡ 2
-    → (x, v) ≡ releasedFrom w u (getD hs 0 0) mode → (y, z) ≡ releasedFrom w v (getD hs 1 0) mode → (x ∷ y ∷ [], z) ≡ releasedAll w mode hs u
-releasedAll-two w mode hs u l e f =
-    all-two w mode (getD hs 0 0) (getD hs 1 0) u e f ∙ ap (λ (k : List ℕ). releasedAll w mode k u) (sym (list-two hs 0 l))
-
-pub releasedAll-mode : (w : ℕ → ℕ) (hs : List ℕ) (u : Uses) {j k : Mode} {o : List ℕ × Uses} → o ≡ releasedAll w j hs u → j ≡ k → o ≡ releasedAll w k hs u
-releasedAll-mode w hs u e q = e ∙ ap (λ (n : Mode). releasedAll w n hs u) q
-
--- ---- flags
-
-module _ (f : Flags) (r : Regs) {over : Bool} {torn : List Bool} (o : over ≡ resetOver f r) where
-  pub releasedFlags-over : over ≡ true → torn ≡ settled (f .torn) (r .cp)
-      → record { marks = false ∷ false ∷ false ∷ false ∷ []; reset = false; torn = torn } ≡ releasedFlags f r
+module _ (t : List ℕ) {over : Bool} {m : ℕ} (o : over ≡ resetOver t) (e : m ≡ settled (tearingsOf t) 0 (cpsOf t)) where
+  pub releasedFlags-over : over ≡ true → unmarked (setTearings m t) ≡ releasedFlags t
   unfolding releasedFlags
-  releasedFlags-over e t = simp (← o, e, t)
+  releasedFlags-over y = simp (← o, y, e)
 
-  pub releasedFlags-else : over ≡ false → torn ≡ settled (f .torn) (r .cp)
-      → record { marks = f .marks; reset = f .reset; torn = torn } ≡ releasedFlags f r
+  pub releasedFlags-else : over ≡ false → setTearings m t ≡ releasedFlags t
   unfolding releasedFlags
-  releasedFlags-else e t = simp (← o, e, t)
+  releasedFlags-else n = simp (← o, n, e)
 
--- ---- worlds
+-- ---- the book, and the world
 
-pub release-is : (s : World) (b : Book) (used lens : List ℕ)
-    → (b .heads, (used, lens)) ≡ releasedAll (word (s .mem)) (releaseMode (s .book .flags) (s .regs)) (s .book .heads) (s .used, s .lens)
-    → b .flags ≡ releasedFlags (s .book .flags) (s .regs)
-    → record { mem = s .mem; kinds = s .kinds; book = b; used = used; lens = lens; regs = s .regs } ≡ release s
+pub releasedBook-is : (w : ℕ → ℕ) (t : List ℕ) (u : Uses) {mode : Mode} {x y : List ℕ} {v : Uses} → mode ≡ releaseMode t
+    → (x, v) ≡ releasedHeads w mode t u → y ≡ releasedFlags x → (y, v) ≡ releasedBook w t u
+unfolding releasedBook
+releasedBook-is w t u {mode} {x} {y} {v} m e f =
+    let h : (x, v) ≡ releasedHeads w (releaseMode t) t u = e ∙ ap (λ (n : Mode). releasedHeads w n t u) m in
+    rw (← h, f) refl
+
+pub release-parts : (s : World) {t u l : List ℕ} → (t, (u, l)) ≡ releasedBook (word (s .mem)) (s .state) (s .used, s .lens)
+    → _≡_ {A = World} (record { mem = s .mem; kinds = s .kinds; state = t; used = u; lens = l }) (release s)
 unfolding release
-release-is s b used lens e f = λ i. record {
-  mem = s .mem;
-  kinds = s .kinds;
-  book = record { heads = e i .0; flags = f i };
-  used = e i .1 .0;
-  lens = e i .1 .1;
-  regs = s .regs;
-}
+release-parts s e = rw (← e) refl

@@ -8,7 +8,7 @@
 --     allTwo                             a test at each entry of two lists
 --     sameList-is, lengthsFit-is         both comparisons are such tests
 --     allTwo-length, -more, -whole       lists of different lengths fail; one entry more; all entries
---     sound-first, -second, -words, -lengths   the four tests of soundness, in their order
+--     sound-flags, -walk, -words, -lengths   the four tests of soundness, in their order
 use Prim.Native.Nat.{ℕ, zero, suc, _+_, _<_, _≤_}
 use mathlib.Core.Path.{_≡_, refl, ap, _∙_, sym}
 use mathlib.Core.Bool.{Bool, true, false}
@@ -25,13 +25,14 @@ use Rattle.layout.specs.Run.{Next, go, stop, after}
 use Rattle.layout.specs.Layout.{goodPtr, wordOf}
 use Rattle.layout.proofs.RunLaws.{run-eq}
 use Rattle.layout.proofs.PointerLaws.{goodPtr-bounds}
-use Rattle.words.specs.WordSet.{emptySet, freeAt, addFour, freeCount, view}
+use Rattle.words.specs.WordSet.{emptySet, freeAt, addFour, freeCount}
 use Rattle.words.proofs.SetLaws.{freeCount-falls}
+use Rattle.registers.specs.Table.{headsOf, flagsFit}
 use Rattle.book.specs.declared.Hop.{Hop}
 use Rattle.book.specs.declared.Hop.the-variants.{Go}
-use Rattle.book.specs.Sound.{WSt, WOut, walkStep, walkFrom, walkAll, sameList, firstStep, firstsFrom, lengthFits, lengthsFit, sound}
+use Rattle.book.specs.Sound.{WSt, WOut, walkStep, walkFrom, walkAll, sameList, firstStep, firstsFrom, firstsAll, lengthFits, lengthsFit, sound}
+use Rattle.book.specs.World.{soundBook}
 use Rattle.book.specs.Hops.{walked, noted}
-use Rattle.book.proofs.ReleaseLaws.{list-two}
 
 -- a good pointer is not 0
 good-not-zero : (p : ℕ) → goodPtr p ≡ true → eqb p 0 ≡ false
@@ -246,41 +247,28 @@ allTwo-whole f a b i h k = rw (take-all i a h, take-all i b k) refl
 
 -- ---- the tests of soundness, in their order
 
-module _ (w : ℕ → ℕ) (hs used lens : List ℕ) (l : length hs ≡ 2) where
-  -- what is left to ask once both chains are walked
-  asked : Bool → Bool → List ℕ → Bool
-  asked a b t = both (both a (both b true)) (both (sameList t used) (lengthsFit (firstsFrom w emptySet (getD hs 1 0)) lens))
+module _ (w : ℕ → ℕ) (t used lens : List ℕ) where
+  pub sound-flags : flagsFit t ≡ false → false ≡ soundBook w t used lens
+  unfolding soundBook
+  sound-flags f = simp f
 
-  sound-two : (c : WOut) → c ≡ walkFrom w emptySet (getD hs 0 0) → (d : WOut) → d ≡ walkFrom w (c .1) (getD hs 1 0)
-      → asked (c .0) (d .0) (d .1) ≡ sound w hs used lens
-  unfolding sound walkAll asked
-  sound-two c p d q =
-      ap (λ (y : WOut). asked (c .0) (y .0) (y .1)) q
-      ∙ ap (λ (x : WOut). asked (x .0) (walkFrom w (x .1) (getD hs 1 0) .0) (walkFrom w (x .1) (getD hs 1 0) .1)) p
-      ∙ ap (λ (k : List ℕ). sound w k used lens) (sym (list-two hs 0 l))
+  module _ {s : List ℕ} {b : Bool} {v : List ℕ} (f : flagsFit t ≡ true) (clear : s ≡ emptySet) (walk : (b, v) ≡ walkAll w (headsOf t) s) where
+    at-empty : walkAll w (headsOf t) emptySet ≡ (b, v)
+    at-empty = sym (walk ∙ ap (λ (l : List ℕ). walkAll w (headsOf t) l) clear)
 
-  module _ {e s : List ℕ} {a : Bool} (clear : e ≡ emptySet) (one : (a, s) ≡ walkFrom w e (getD hs 0 0)) where
-    first-told : (a, s) ≡ walkFrom w emptySet (getD hs 0 0)
-    first-told = one ∙ ap (λ (k : List ℕ). walkFrom w k (getD hs 0 0)) clear
+    pub sound-walk : b ≡ false → false ≡ soundBook w t used lens
+    unfolding soundBook sound
+    sound-walk x = simp (f, at-empty, x)
 
-    pub sound-first : a ≡ false → false ≡ sound w hs used lens
-    unfolding asked
-    sound-first x = simp x at (sound-two (a, s) first-told _ refl)
+    module _ {q : Bool} (x : b ≡ true) (same : q ≡ sameList v used) where
+      pub sound-words : q ≡ false → false ≡ soundBook w t used lens
+      unfolding soundBook sound
+      sound-words z = simp (f, at-empty, x, ← same, z)
 
-    module _ (x : a ≡ true) (v : List ℕ) {b : Bool} (other : (b, view v) ≡ walkFrom w s (getD hs 1 0)) where
-      pub sound-second : b ≡ false → false ≡ sound w hs used lens
-      unfolding asked
-      sound-second y = simp (x, y) at (sound-two (a, s) first-told (b, view v) other)
-
-      module _ (y : b ≡ true) {q : Bool} (same : q ≡ sameList v used) where
-        pub sound-words : q ≡ false → false ≡ sound w hs used lens
-        unfolding asked view
-        sound-words z = simp (x, y, ← same, z) at (sound-two (a, s) first-told (b, view v) other)
-
-        pub sound-lengths : {r : Bool} (f : List ℕ) {g : List ℕ} → q ≡ true → view f ≡ emptySet → g ≡ firstsFrom w f (getD hs 1 0)
-            → r ≡ lengthsFit g lens → r ≡ sound w hs used lens
-        unfolding asked view
-        sound-lengths f z c k m =
-            m
-            ∙ ap (λ (n : List ℕ). lengthsFit n lens) (k ∙ ap (λ (n : List ℕ). firstsFrom w n (getD hs 1 0)) c)
-            ∙ simp (x, y, ← same, z) at (sound-two (a, s) first-told (b, view v) other)
+      pub sound-lengths : {r : Bool} {g h : List ℕ} → q ≡ true → g ≡ emptySet → h ≡ firstsAll w (headsOf t) g → r ≡ lengthsFit h lens
+          → r ≡ soundBook w t used lens
+      unfolding soundBook sound
+      sound-lengths z c k m =
+          m
+          ∙ ap (λ (n : List ℕ). lengthsFit n lens) (k ∙ ap (λ (n : List ℕ). firstsAll w (headsOf t) n) c)
+          ∙ simp (f, at-empty, x, ← same, z) refl

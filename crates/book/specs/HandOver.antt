@@ -7,7 +7,6 @@
 --     takenFrom w side u p      every descriptor from p on taken
 -- Laws: proofs/HandOverLaws.antt. Assumes nothing: these are definitions.
 use Prim.Native.Nat.{ℕ, _+_}
-use mathlib.Core.Bool.{Bool, true, false}
 use mathlib.Core.List.{List}
 use lib.ListN.{set}
 use Rattle.layout.specs.Choice.{pick}

@@ -7,19 +7,22 @@
 --     releasedFrom w u p mode   one queue: its new head, and words in use and lengths
 --     releasedAll w mode heads u   every queue in turn
 --     resetOver, settled, releasedFlags   the first two rules: reset and teardown that are over
+--     withHeads hs t   the table with other heads
+--     releasedHeads, releasedBook   the queues of a table; all three rules
 -- Laws: proofs/ReleaseLaws.antt. Assumes nothing: these are definitions.
 use Prim.Native.Nat.{ℕ, _+_}
-use mathlib.Core.Bool.{Bool, true, false, not}
-use mathlib.Core.List.{List, [], _∷_}
+use mathlib.Core.Bool.{Bool, not}
+use mathlib.Core.List.{List, [], _∷_, _++_}
+use lib.ListN.{drop}
 use lib.Dec.{eqb}
 use Rattle.layout.specs.Choice.{pick, both}
+use Rattle.layout.specs.Bits.{clearBit}
 use Rattle.layout.specs.Run.{Next, go, stop, run}
-use Rattle.layout.specs.Layout.{goodPtr, wordOf}
+use Rattle.layout.specs.Layout.{goodPtr, wordOf, queues}
 use Rattle.words.specs.WordSet.{has, inUse}
 use Rattle.descriptor.specs.Fields.{eop, owner, eoq, td}
-use Rattle.registers.specs.Pending.{tornDown, unmarked}
-use Rattle.registers.specs.declared.Flags.{Flags}
-use Rattle.registers.specs.declared.Regs.{Regs}
+use Rattle.registers.specs.Table.{tearingsOf, setTearings, headsOf, cpsOf, resetOf, bitOf, unmarked}
+use Rattle.registers.specs.Rules.{teardownDone}
 use Rattle.book.specs.declared.Mode.{Mode}
 use Rattle.book.specs.declared.Mode.the-variants.{Head, Packet, All}
 use Rattle.book.specs.declared.Plan.{Plan}
@@ -67,21 +70,32 @@ releasedAll w mode (h ∷ hs) u =
     (r .0 ∷ t .0, t .1)
 
 -- "Reset pending and the bit reads 0"
-abbrev pub resetOver : Flags → Regs → Bool
-resetOver f r = both (f .reset) (not (r .bit))
+abbrev pub resetOver : List ℕ → Bool
+resetOver t = both (resetOf t) (not (bitOf t))
 
--- "Teardown pending and that side's CP reads 0xFFFFFFFC: pending ends"
-abbrev pub settled : List Bool → List ℕ → List Bool
-settled [] cps = []
-settled (t ∷ ts) [] = t ∷ ts
-settled (t ∷ ts) (c ∷ cs) = pick (eqb c tornDown) false t ∷ settled ts cs
+-- "Teardown pending and that side's CP reads 0xFFFFFFFC: pending ends"; the CPs are those of the queues from q on
+abbrev pub settled : ℕ → ℕ → List ℕ → ℕ
+settled mask q [] = mask
+settled mask q (c ∷ cs) = settled (pick (eqb c teardownDone) (clearBit q mask) mask) (q + 1) cs
 
 -- ".. pending ends, all four registers await zero again"
-unfoldable pub releasedFlags : Flags → Regs → Flags
-releasedFlags f r =
-    let g = pick (resetOver f r) (unmarked f) f in
-    record { marks = g .marks; reset = g .reset; torn = settled (f .torn) (r .cp) }
+unfoldable pub releasedFlags : List ℕ → List ℕ
+releasedFlags t =
+    let u = setTearings (settled (tearingsOf t) 0 (cpsOf t)) t in
+    pick (resetOver t) (unmarked u) u
 
 -- ".. both queues go": the walk from each head then drops all
-abbrev pub releaseMode : Flags → Regs → Mode
-releaseMode f r = pick (resetOver f r) All Head
+abbrev pub releaseMode : List ℕ → Mode
+releaseMode t = pick (resetOver t) All Head
+
+-- the table with these heads
+abbrev pub withHeads : List ℕ → List ℕ → List ℕ
+withHeads hs t = hs ++ drop queues t
+
+-- each queue in turn, and the heads that are left put into the table
+unfoldable pub releasedHeads : (ℕ → ℕ) → Mode → List ℕ → Uses → List ℕ × Uses
+releasedHeads w mode t u = let r = releasedAll w mode (headsOf t) u in (withHeads (r .0) t, r .1)
+
+-- "Every guard call not answered 1 or 2 first releases"
+unfoldable pub releasedBook : (ℕ → ℕ) → List ℕ → Uses → List ℕ × Uses
+releasedBook w t u = let r = releasedHeads w (releaseMode t) t u in (releasedFlags (r .0), r .1)

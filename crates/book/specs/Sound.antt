@@ -7,15 +7,15 @@
 --     lengthsFit            each recorded length is right for whether a receive descriptor begins there
 --     sound w heads used lens
 -- Laws: proofs/SoundLaws.antt. Assumes nothing: these are definitions.
-use Prim.Native.Nat.{ℕ, zero, suc, _+_, _%_}
-use mathlib.Core.Bool.{Bool, true, false, not}
+use Prim.Native.Nat.{ℕ}
+use mathlib.Core.Bool.{Bool, true, false}
 use mathlib.Core.List.{List, [], _∷_}
-use lib.ListN.{length, getD, set}
+use lib.ListN.{getD, set}
 use lib.Dec.{eqb, leb}
 use Rattle.layout.specs.Choice.{pick, both}
 use Rattle.layout.specs.Run.{Next, go, stop, run}
-use Rattle.layout.specs.Layout.{goodPtr, wordOf, descWords, lengthMax}
-use Rattle.words.specs.WordSet.{emptySet, has, freeAt, addFour, freeCount}
+use Rattle.layout.specs.Layout.{goodPtr, wordOf, lengthMax}
+use Rattle.words.specs.WordSet.{emptySet, freeAt, addFour, freeCount}
 
 abbrev pub WSt : Type 0
 WSt = List ℕ × ℕ

@@ -1,33 +1,45 @@
-// The book: heads and flags of the queues, with the words in use and the recorded lengths lent beside them. It is found
-// sound or not, what the controller is done with is released from it, and an accepted chain is handed over to it.
-// Promises: each function's answer, and what it leaves of the words in use and of the lengths, are those of the
+// The book: the small state, the words in use and the recorded lengths, all lent. It is found sound or not, what the controller
+// is done with is released from it, and an accepted chain is handed over to it.
+// Promises: each function's answer, and what it leaves of the small state, of the words in use and of the lengths, are those of the
 // definitions in specs/; descriptors are taken and dropped one at a time, and no walk grows the stack with the chain.
 // Document 01, "The book and the release".
+
+use layout::CHANNELS;
+use layout::Lengths;
+use layout::QUEUES;
 use layout::Side;
+use layout::TEARDOWN_DONE;
+use layout::Words;
+use layout::clear_bit;
 use layout::word_number;
-use registers::Flags;
-use registers::Regs;
+use registers::CP_AT;
+use registers::MARKS_AT;
+use registers::RESET_AT;
+use registers::State;
+use registers::TEARING_AT;
+use registers::are_flags;
+use registers::has_reset_bit;
+use registers::is_any_tearing;
+use registers::is_resetting;
 ghost use mathlib.Core.Path.{_≡_};
 ghost use mathlib.Core.Bool.{true, false};
-ghost use Prim.Native.Nat.{_≤_, _<_};
+ghost use Prim.Native.Nat.{_≤_, _<_, _+_};
 ghost use lib.ListN.{length, getD};
 ghost use lib.Dec.{eqb};
 ghost use Rattle.layout.specs.Choice.{pick, both};
+ghost use Rattle.layout.specs.Bits.{clearBit};
+ghost use Rattle.layout.specs.Layout.{descBytes, queues};
 ghost use Rattle.words.specs.Word.{word};
-ghost use Rattle.words.specs.WordSet.{view};
-ghost use Rattle.registers.specs.Pending.{tornDown};
+ghost use Rattle.registers.specs.Table.{headsOf, cpsOf, tearingsOf};
+ghost use Rattle.registers.specs.Rules.{teardownDone};
 ghost use Rattle.book.specs.HandOver.{recordOf, takeOne, dropOne, takeStep, takenFrom};
-ghost use Rattle.book.specs.Release.{through, plan, releaseStep, releasedFrom, releasedAll};
-ghost use Rattle.book.specs.Release.{resetOver, settled, releasedFlags, releaseMode};
-ghost use Rattle.book.specs.Sound.{walkStep, walkFrom, firstStep, firstsFrom};
-ghost use Rattle.book.specs.Sound.{sameList, lengthFits, lengthsFit, sound};
+ghost use Rattle.book.specs.Release.{through, plan, releaseStep, releasedFrom};
+ghost use Rattle.book.specs.Release.{resetOver, settled, releasedFlags, releaseMode, releasedHeads, releasedBook};
+ghost use Rattle.book.specs.Sound.{walkStep, walkFrom, walkAll, firstStep, firstsFrom, firstsAll};
+ghost use Rattle.book.specs.Sound.{sameList, lengthFits, lengthsFit};
+ghost use Rattle.book.specs.World.{soundBook};
+ghost use Rattle.book.specs.Quiet.{held, heldAll, quiet};
 ghost use Rattle.book.specs.Hops.{turned, taken, walked, noted};
-
-// Heads and flags of the book; the words in use and the recorded lengths are lent beside it.
-pub struct Book {
-    pub heads: [u32; 2],
-    pub flags: Flags,
-}
 
 // Where the release stands: at a queue's head, in a packet that goes, or in the rest of a queue that goes.
 pub enum Mode {
@@ -55,27 +67,25 @@ enum Hop {
 }
 
 // The chain walk at p: its descriptor's words are met. A pointer that names none, or one met before, ends the walk.
-fn meet_at(m: &[u8], met: &mut [u8; 2048], p: u32) -> Hop
-    requires { ⌜ length (now m) ≡ 8192 ⌝ }
-    ensures { λ r. ⌜ walked r p (view (now (met .exit)))
-        ≡ walkStep (word (now (m .entry))) (view (now (met .entry)), p) ⌝ }
+fn meet_at(m: &[u8], met: &mut Words, p: u32) -> Hop
+    requires { ⌜ length (now m) ≡ descBytes ⌝ }
+    ensures { λ r. ⌜ walked r p (now (met .exit)) ≡ walkStep (word (now (m .entry))) (now (met .entry), p) ⌝ }
 {
     if !layout::is_good(p) {
         return Hop::Stop;
     }
     let d = word_number(p);
-    if !words::is_free(met, d) {
+    if !words::four_free(met, d) {
         return Hop::Stop;
     }
-    words::add_four(met, d);
+    words::take_four(met, d);
     Hop::Go(words::word_of(m, d))
 }
 
 // Whether the chain from p ends at 0 over good pointers, no word met twice.
-fn walk_from(m: &&[u8], met: &mut [u8; 2048], p: u32) -> bool
-    requires { ⌜ length (now (now m)) ≡ 8192 ⌝ }
-    ensures { λ r. ⌜ (r, view (now (met .exit)))
-        ≡ walkFrom (word (now (now (m .entry)))) (view (now (met .entry))) p ⌝ }
+fn walk_from(m: &&[u8], met: &mut Words, p: u32) -> bool
+    requires { ⌜ length (now (now m)) ≡ descBytes ⌝ }
+    ensures { λ r. ⌜ (r, now (met .exit)) ≡ walkFrom (word (now (now (m .entry)))) (now (met .entry)) p ⌝ }
 {
     let hop = meet_at(*m, met, p);
     match hop {
@@ -93,8 +103,8 @@ fn is_new(firsts: &[u8], d: usize) -> bool
 }
 
 // The first word of the descriptor at p is noted. A pointer that names none, or one noted before, ends the walk.
-fn note_at(m: &[u8], firsts: &mut [u8; 2048], p: u32) -> Hop
-    requires { ⌜ length (now m) ≡ 8192 ⌝ }
+fn note_at(m: &[u8], firsts: &mut Words, p: u32) -> Hop
+    requires { ⌜ length (now m) ≡ descBytes ⌝ }
     ensures { λ r. ⌜ noted r (now (firsts .exit)) ≡ firstStep (word (now (m .entry))) (now (firsts .entry), p) ⌝ }
 {
     if !layout::is_good(p) {
@@ -109,8 +119,8 @@ fn note_at(m: &[u8], firsts: &mut [u8; 2048], p: u32) -> Hop
 }
 
 // The first words of the descriptors from p on are noted.
-fn note_from(m: &&[u8], firsts: &mut [u8; 2048], p: u32)
-    requires { ⌜ length (now (now m)) ≡ 8192 ⌝ }
+fn note_from(m: &&[u8], firsts: &mut Words, p: u32)
+    requires { ⌜ length (now (now m)) ≡ descBytes ⌝ }
     ensures { λ _. ⌜ now (firsts .exit) ≡ firstsFrom (word (now (now (m .entry)))) (now (firsts .entry)) p ⌝ }
 {
     let hop = note_at(*m, firsts, p);
@@ -172,30 +182,52 @@ fn lengths_fit(firsts: &[u8], lens: &[u16]) -> bool
     fit
 }
 
-// Whether the book is sound. The scratch set is lent, and nothing is promised of what it holds afterwards.
-pub fn is_sound(
-    m: &[u8],
-    heads: [u32; 2],
-    used: &[u8; 2048],
-    lens: &[u16; 2048],
-    scratch: &mut [u8; 2048],
-) -> bool
-    requires { ⌜ length (now m) ≡ 8192 ⌝ }
-    ensures { λ r. ⌜ r ≡ sound (word (now (m .entry))) heads (now (used .entry)) (now (lens .entry)) ⌝ }
+// Each chain from the heads in turn: whether all of them end at 0 over good pointers, no word met twice.
+fn walk_heads(m: &[u8], t: &State, met: &mut Words) -> bool
+    requires { ⌜ length (now m) ≡ descBytes ⌝ }
+    ensures { λ r. ⌜ (r, now (met .exit))
+        ≡ walkAll (word (now (m .entry))) (headsOf (now (t .entry))) (now (met .entry)) ⌝ }
 {
     let memory = m;
-    words::clear_all(scratch);
-    if !walk_from(&memory, scratch, heads[0]) {
+    let mut good = true;
+    let mut q: usize = 0;
+    while q < QUEUES {
+        good = is_both(good, walk_from(&memory, met, t[q]));
+        q += 1;
+    }
+    good
+}
+
+// The first words of the descriptors of each receive queue are noted: those of odd number.
+fn note_heads(m: &[u8], t: &State, firsts: &mut Words)
+    requires { ⌜ length (now m) ≡ descBytes ⌝ }
+    ensures { λ _. ⌜ now (firsts .exit) ≡ firstsAll (word (now (m .entry))) (headsOf (now (t .entry))) (now (firsts .entry)) ⌝ }
+{
+    let memory = m;
+    let mut c: usize = 0;
+    while c < CHANNELS {
+        note_from(&memory, firsts, t[2 * c + 1]);
+        c += 1;
+    }
+}
+
+// Whether the book is sound. The scratch set is lent, and nothing is promised of what it holds afterwards.
+pub fn is_sound(m: &[u8], t: &State, used: &Words, lens: &Lengths, scratch: &mut Words) -> bool
+    requires { ⌜ length (now m) ≡ descBytes ⌝ }
+    ensures { λ r. ⌜ r ≡ soundBook (word (now (m .entry))) (now (t .entry)) (now (used .entry)) (now (lens .entry)) ⌝ }
+{
+    if !are_flags(t) {
         return false;
     }
-    if !walk_from(&memory, scratch, heads[1]) {
+    words::clear_all(scratch);
+    if !walk_heads(m, t, scratch) {
         return false;
     }
     if !is_same(scratch, used) {
         return false;
     }
     words::clear_all(scratch);
-    note_from(&memory, scratch, heads[1]);
+    note_heads(m, t, scratch);
     lengths_fit(scratch, lens)
 }
 
@@ -232,7 +264,7 @@ pub fn plan_of(mode: Mode, x3: u32) -> Plan
 }
 
 // The descriptor at word d goes: its words are out of use, and its recorded length is 0.
-fn drop_one(used: &mut [u8; 2048], lens: &mut [u16; 2048], d: usize)
+fn drop_one(used: &mut Words, lens: &mut Lengths, d: usize)
     requires { ⌜ d ≤ 2044 ⌝ }
     ensures { λ _. ⌜ (now (used .exit), now (lens .exit)) ≡ dropOne (now (used .entry), now (lens .entry)) d ⌝ }
 {
@@ -241,8 +273,8 @@ fn drop_one(used: &mut [u8; 2048], lens: &mut [u16; 2048], d: usize)
 }
 
 // The release at p: its descriptor is kept or dropped. A pointer that names no descriptor in use ends the queue.
-fn release_at(m: &[u8], used: &mut [u8; 2048], lens: &mut [u16; 2048], p: u32, mode: Mode) -> Turn
-    requires { ⌜ length (now m) ≡ 8192 ⌝ }
+fn release_at(m: &[u8], used: &mut Words, lens: &mut Lengths, p: u32, mode: Mode) -> Turn
+    requires { ⌜ length (now m) ≡ descBytes ⌝ }
     ensures { λ r. ⌜ turned r p (now (used .exit), now (lens .exit))
         ≡ releaseStep (word (now (m .entry))) ((now (used .entry), now (lens .entry)), p, mode) ⌝ }
 {
@@ -264,8 +296,8 @@ fn release_at(m: &[u8], used: &mut [u8; 2048], lens: &mut [u16; 2048], p: u32, m
 }
 
 // One queue from p on: what goes, goes descriptor by descriptor, and the head that is left is the answer.
-fn release_from(m: &&[u8], used: &mut [u8; 2048], lens: &mut [u16; 2048], p: u32, mode: Mode) -> u32
-    requires { ⌜ length (now (now m)) ≡ 8192 ⌝ }
+fn release_from(m: &&[u8], used: &mut Words, lens: &mut Lengths, p: u32, mode: Mode) -> u32
+    requires { ⌜ length (now (now m)) ≡ descBytes ⌝ }
     ensures { λ r. ⌜ (r, (now (used .exit), now (lens .exit)))
         ≡ releasedFrom (word (now (now (m .entry)))) (now (used .entry), now (lens .entry)) p mode ⌝ }
 {
@@ -276,105 +308,133 @@ fn release_from(m: &&[u8], used: &mut [u8; 2048], lens: &mut [u16; 2048], p: u32
     }
 }
 
-// Each queue in turn, from its head on.
-fn release_queues(
-    m: &[u8],
-    heads: [u32; 2],
-    used: &mut [u8; 2048],
-    lens: &mut [u16; 2048],
-    mode: Mode,
-) -> [u32; 2]
-    requires { ⌜ length (now m) ≡ 8192 ⌝ }
-    ensures { λ r. ⌜ (r, (now (used .exit), now (lens .exit)))
-        ≡ releasedAll (word (now (m .entry))) mode heads (now (used .entry), now (lens .entry)) ⌝ }
+// Each queue in turn, from its head on: the heads that are left.
+fn release_queues(m: &[u8], t: &mut State, used: &mut Words, lens: &mut Lengths, mode: Mode)
+    requires { ⌜ length (now m) ≡ descBytes ⌝ }
+    ensures { λ _. ⌜ (now (t .exit), (now (used .exit), now (lens .exit)))
+        ≡ releasedHeads (word (now (m .entry))) mode (now (t .entry)) (now (used .entry), now (lens .entry)) ⌝ }
 {
     let memory = m;
-    let transmit = release_from(&memory, used, lens, heads[0], mode);
-    let receive = release_from(&memory, used, lens, heads[1], mode);
-    [transmit, receive]
+    let mut q: usize = 0;
+    while q < QUEUES {
+        t[q] = release_from(&memory, used, lens, t[q], mode);
+        q += 1;
+    }
 }
 
 // Whether a reset is over that the book still has as pending.
-fn is_over(f: Flags, r: Regs) -> bool
-    ensures { λ x. ⌜ x ≡ resetOver f r ⌝ }
+fn is_over(t: &State) -> bool
+    ensures { λ x. ⌜ x ≡ resetOver (now (t .entry)) ⌝ }
 {
-    if !f.reset {
+    if !is_resetting(t) {
         return false;
     }
-    !r.bit
+    !has_reset_bit(t)
 }
 
-// Whether a teardown that was pending still is.
-fn is_still(torn: bool, cp: u32) -> bool
-    ensures { λ r. ⌜ r ≡ pick (eqb cp tornDown) false torn ⌝ }
+// A mask of pending teardowns once the CP of queue q was seen.
+fn settle_one(mask: u32, q: usize, cp: u32) -> u32
+    requires { ⌜ q < queues ⌝ }
+    ensures { λ r. ⌜ r ≡ pick (eqb cp teardownDone) (clearBit q mask) mask ⌝ }
 {
-    if cp == layout::TORN_DOWN {
-        return false;
+    if cp == TEARDOWN_DONE {
+        return clear_bit(mask, q as u32);
     }
-    torn
+    mask
 }
 
-// Teardowns that the controller has finished are no longer pending.
-fn settle(torn: [bool; 2], cp: [u32; 2]) -> [bool; 2]
-    ensures { λ r. ⌜ r ≡ settled torn cp ⌝ }
+// The teardowns that are still pending: those that the controller has finished are not.
+fn settle(t: &State) -> u32
+    ensures { λ r. ⌜ r ≡ settled (tearingsOf (now (t .entry))) 0 (cpsOf (now (t .entry))) ⌝ }
 {
-    [is_still(torn[0], cp[0]), is_still(torn[1], cp[1])]
+    let mut mask = t[TEARING_AT];
+    let mut q: usize = 0;
+    while q < QUEUES {
+        mask = settle_one(mask, q, t[CP_AT + q]);
+        q += 1;
+    }
+    mask
 }
 
 // The flags after what is over has been seen.
-fn release_flags(f: Flags, r: Regs) -> Flags
-    ensures { λ x. ⌜ x ≡ releasedFlags f r ⌝ }
+fn release_flags(t: &mut State)
+    ensures { λ _. ⌜ now (t .exit) ≡ releasedFlags (now (t .entry)) ⌝ }
 {
-    let was = f.torn;
-    let cp = r.cp;
-    let torn = settle(was, cp);
-    if is_over(f, r) {
-        return Flags {
-            marks: [false; 4],
-            reset: false,
-            torn: torn,
-        };
+    let over = is_over(t);
+    t[TEARING_AT] = settle(t);
+    if !over {
+        return;
     }
-    let marks = f.marks;
-    Flags {
-        marks: marks,
-        reset: f.reset,
-        torn: torn,
-    }
+    t[MARKS_AT] = 0;
+    t[RESET_AT] = 0;
 }
 
 // Where the release of a queue begins: after a reset all of it goes.
-fn mode_of(f: Flags, r: Regs) -> Mode
-    ensures { λ x. ⌜ x ≡ releaseMode f r ⌝ }
+fn mode_of(t: &State) -> Mode
+    ensures { λ x. ⌜ x ≡ releaseMode (now (t .entry)) ⌝ }
 {
-    if is_over(f, r) {
+    if is_over(t) {
         return Mode::All;
     }
     Mode::Head
 }
 
 // The release of the whole book. Where nothing goes, no more is read than word 3 at each head.
-pub fn release_book(
-    m: &[u8],
-    b: Book,
-    r: Regs,
-    used: &mut [u8; 2048],
-    lens: &mut [u16; 2048],
-) -> Book
-    requires { ⌜ length (now m) ≡ 8192 ⌝ }
-    ensures { λ x. ⌜ ((x .heads, (now (used .exit), now (lens .exit)))
-        ≡ releasedAll (word (now (m .entry))) (releaseMode (b .flags) r) (b .heads)
-        (now (used .entry), now (lens .entry)))
-        × (x .flags ≡ releasedFlags (b .flags) r) ⌝ }
+pub fn release_book(m: &[u8], t: &mut State, used: &mut Words, lens: &mut Lengths)
+    requires { ⌜ length (now m) ≡ descBytes ⌝ }
+    ensures { λ _. ⌜ (now (t .exit), (now (used .exit), now (lens .exit)))
+        ≡ releasedBook (word (now (m .entry))) (now (t .entry)) (now (used .entry), now (lens .entry)) ⌝ }
 {
-    let f = b.flags;
-    let was = b.heads;
-    let heads = release_queues(m, was, used, lens, mode_of(f, r));
-    let flags = release_flags(f, r);
-    Book {
-        heads: heads,
-        flags: flags,
+    let mode = mode_of(t);
+    release_queues(m, t, used, lens, mode);
+    release_flags(t);
+}
+
+// Whether the queue with the head p keeps all its descriptors: it is empty, or p names one that is still the controller's.
+fn is_held(m: &[u8], p: u32) -> bool
+    requires { ⌜ length (now m) ≡ descBytes ⌝ }
+    ensures { λ r. ⌜ r ≡ held (word (now (m .entry))) p ⌝ }
+{
+    if p == 0 {
+        return true;
     }
+    if !layout::is_good(p) {
+        return false;
+    }
+    let x = words::word_of(m, word_number(p) + 3);
+    if descriptor::has_td(x) {
+        return false;
+    }
+    descriptor::has_owner(x)
+}
+
+// Whether each queue does.
+fn are_held(m: &[u8], t: &State) -> bool
+    requires { ⌜ length (now m) ≡ descBytes ⌝ }
+    ensures { λ r. ⌜ r ≡ heldAll (word (now (m .entry))) (headsOf (now (t .entry))) ⌝ }
+{
+    let mut q: usize = 0;
+    while q < QUEUES {
+        if !is_held(m, t[q]) {
+            return false;
+        }
+        q += 1;
+    }
+    true
+}
+
+// Whether the release finds nothing to do.
+pub fn is_quiet(m: &[u8], t: &State) -> bool
+    requires { ⌜ length (now m) ≡ descBytes ⌝ }
+    ensures { λ r. ⌜ r ≡ quiet (word (now (m .entry))) (now (t .entry)) ⌝ }
+{
+    if is_resetting(t) {
+        return false;
+    }
+    if is_any_tearing(t) {
+        return false;
+    }
+    are_held(m, t)
 }
 
 // What is recorded for a descriptor: a receive length as handed over, else 0.
@@ -388,7 +448,7 @@ fn record_of(side: Side, x2: u32) -> u16
 }
 
 // The descriptor at word d, whose word 2 is x2, is taken: its words are in use, and its length is recorded.
-fn take_one(side: Side, x2: u32, used: &mut [u8; 2048], lens: &mut [u16; 2048], d: usize)
+fn take_one(side: Side, x2: u32, used: &mut Words, lens: &mut Lengths, d: usize)
     requires { ⌜ d ≤ 2044 ⌝ }
     ensures { λ _. ⌜ (now (used .exit), now (lens .exit)) ≡ takeOne side x2 (now (used .entry), now (lens .entry)) d ⌝ }
 {
@@ -397,8 +457,8 @@ fn take_one(side: Side, x2: u32, used: &mut [u8; 2048], lens: &mut [u16; 2048], 
 }
 
 // The hand-over at p: its descriptor is taken. A pointer that names no free descriptor ends the chain.
-fn take_at(m: &[u8], side: Side, used: &mut [u8; 2048], lens: &mut [u16; 2048], p: u32) -> Hop
-    requires { ⌜ length (now m) ≡ 8192 ⌝ }
+fn take_at(m: &[u8], side: Side, used: &mut Words, lens: &mut Lengths, p: u32) -> Hop
+    requires { ⌜ length (now m) ≡ descBytes ⌝ }
     ensures { λ r. ⌜ taken r (now (used .exit), now (lens .exit))
         ≡ takeStep (word (now (m .entry))) side ((now (used .entry), now (lens .entry)), p) ⌝ }
 {
@@ -406,7 +466,7 @@ fn take_at(m: &[u8], side: Side, used: &mut [u8; 2048], lens: &mut [u16; 2048], 
         return Hop::Stop;
     }
     let d = word_number(p);
-    if !words::is_free(used, d) {
+    if !words::four_free(used, d) {
         return Hop::Stop;
     }
     take_one(side, words::word_of(m, d + 2), used, lens, d);
@@ -414,8 +474,8 @@ fn take_at(m: &[u8], side: Side, used: &mut [u8; 2048], lens: &mut [u16; 2048], 
 }
 
 // Every descriptor from p on is taken.
-fn take_from(m: &&[u8], side: Side, used: &mut [u8; 2048], lens: &mut [u16; 2048], p: u32)
-    requires { ⌜ length (now (now m)) ≡ 8192 ⌝ }
+fn take_from(m: &&[u8], side: Side, used: &mut Words, lens: &mut Lengths, p: u32)
+    requires { ⌜ length (now (now m)) ≡ descBytes ⌝ }
     ensures { λ _. ⌜ (now (used .exit), now (lens .exit))
         ≡ takenFrom (word (now (now (m .entry)))) side (now (used .entry), now (lens .entry)) p ⌝ }
 {
@@ -427,8 +487,8 @@ fn take_from(m: &&[u8], side: Side, used: &mut [u8; 2048], lens: &mut [u16; 2048
 }
 
 // The hand-over of an accepted chain.
-pub fn take_chain(m: &[u8], side: Side, used: &mut [u8; 2048], lens: &mut [u16; 2048], at: u32)
-    requires { ⌜ length (now m) ≡ 8192 ⌝ }
+pub fn take_chain(m: &[u8], side: Side, used: &mut Words, lens: &mut Lengths, at: u32)
+    requires { ⌜ length (now m) ≡ descBytes ⌝ }
     ensures { λ _. ⌜ (now (used .exit), now (lens .exit))
         ≡ takenFrom (word (now (m .entry))) side (now (used .entry), now (lens .entry)) at ⌝ }
 {

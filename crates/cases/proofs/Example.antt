@@ -2,8 +2,9 @@
 use Prim.Native.Nat.{ℕ}
 use mathlib.Core.Path.{_≡_, refl}
 use mathlib.Core.List.{List, [], _∷_}
+use Rattle.layout.specs.Bits.{setBit, clearBit}
 use Rattle.layout.specs.Run.{run}
-use Rattle.layout.specs.Layout.{goodPtr, wordOf, inDescriptors}
+use Rattle.layout.specs.Layout.{sideOf, goodPtr, wordOf, inDescriptors}
 use Rattle.layout.specs.Class.{ruleOf, classOf, classAt}
 use Rattle.words.specs.Word.{wordAt, putWord, word, put}
 use Rattle.words.specs.WordSet.{emptySet, has, freeAt, addFour, dropFour, freeCount, inUse, view}
@@ -11,22 +12,24 @@ use Rattle.blocks.specs.Kinds.{fitKinds}
 use Rattle.blocks.specs.Room.{roomFor, roomOf, touches}
 use Rattle.descriptor.specs.Fields.{sop, eop, owner, eoq, td, packetLength, lengthOf, offsetOf, firstByte}
 use Rattle.descriptor.specs.Rules.{flagsFault, lengthFault, endFault, sumFault, behind, nextFault, ownFault, fetchFault}
-use Rattle.descriptor.specs.Marks.{setBit, clearBit, putLength, marked, lastMarked}
-use Rattle.registers.specs.Pending.{sideOf, awaiting, anyTorn}
-use Rattle.registers.specs.Rules.{headFault, ackFault, teardownFault, resetFault, zeroFault, byClass, registerFault, headWritten, ackWritten, written}
+use Rattle.marks.specs.Marks.{putLength, marked, lastMarked}
+use Rattle.registers.specs.Table.{awaiting, anyTearing, resetOf, bitOf, flagsFit, loaded}
+use Rattle.registers.specs.Rules.{headFault, ackFault, teardownFault, resetFault, zeroFault, tearQueue, byClass, registerFault, headWritten, ackWritten, written}
 use Rattle.chain.specs.Chain.{blockFault, descFault, judgeStep, chainOf}
 use Rattle.book.specs.Sound.{walkStep, walkFrom, walkAll, firstStep, firstsFrom, sound}
 use Rattle.book.specs.HandOver.{takeOne, dropOne, takeStep, takenFrom}
-use Rattle.book.specs.Release.{plan, releaseStep, releasedFrom, releasedAll, releasedFlags}
-use Rattle.book.specs.World.{fitParts, unfit, soundWorld, release}
+use Rattle.book.specs.Release.{plan, releaseStep, releasedFrom, releasedAll, releasedFlags, releasedHeads, releasedBook}
+use Rattle.book.specs.World.{fitParts, unfit, soundBook, soundWorld, release}
+use Rattle.guard.specs.Answers.{answerTo}
 use Rattle.guard.specs.Judges.{judgeHead, judgeRegister, lastOf, isLast, judgeAppend, judgeLast, judgeWord, judgeClass, judge}
-use Rattle.guard.specs.Guard.{admitted, guestWrite, inReception, judgeKind, kindChange}
+use Rattle.guard.specs.Guard.{admitted, guestWrite}
+use Rattle.kinds.specs.Kinds.{inReception, judgeKind, kindChange}
 use Rattle.phases.specs.Transmit.{fetch, readBurst, close, markEoq, octetsOf, clearOwn, finish, sendStep}
 use Rattle.controller.specs.Controller.{transmitStep, receiveStep, tearMark, tearStep, resetStep, stepOf, frameOf, registerWrite, unguardedWrite, freshController}
 use Rattle.machine.specs.Machine.{applyWrite, applyKind, applyFrame, applyStep, freshMachine}
-use Rattle.records.specs.Records.{decodeRam, decodeLater, decode}
+use Rattle.records.specs.Records.{decodeRam, engineOf, decodeLater, decode}
 use Rattle.records.specs.Lines.{decimal, hex8, lineOf, sentLine, badLine}
-use Rattle.replay.specs.Replay.{engineOf, recordOf, replay}
+use Rattle.replay.specs.Replay.{recordOf, replay}
 
 -- "Input RM 4 with kinds 0,1,2,3; GW 4A100A04, 0; KC 1, 2"
 abbrev pub exampleIn : List ℕ
@@ -37,5 +40,5 @@ abbrev pub exampleOut : List ℕ
 exampleOut = 87 ∷ 32 ∷ 52 ∷ 65 ∷ 49 ∷ 48 ∷ 48 ∷ 65 ∷ 48 ∷ 52 ∷ 32 ∷ 53 ∷ 10 ∷ 75 ∷ 32 ∷ 49 ∷ 32 ∷ 48 ∷ 10 ∷ 115 ∷ 101 ∷ 110 ∷ 116 ∷ 32 ∷ 48 ∷ 32 ∷ 114 ∷ 101 ∷ 99 ∷ 101 ∷ 105 ∷ 118 ∷ 101 ∷ 100 ∷ 32 ∷ 48 ∷ 10 ∷ []
 
 pub example : replay exampleIn ≡ exampleOut
-unfolding run goodPtr wordOf inDescriptors ruleOf classOf classAt wordAt putWord word put emptySet has freeAt addFour dropFour freeCount inUse view fitKinds roomFor roomOf touches sop eop owner eoq td packetLength lengthOf offsetOf firstByte flagsFault lengthFault endFault sumFault behind nextFault ownFault fetchFault setBit clearBit putLength marked lastMarked sideOf awaiting anyTorn headFault ackFault teardownFault resetFault zeroFault byClass registerFault headWritten ackWritten written blockFault descFault judgeStep chainOf walkStep walkFrom walkAll firstStep firstsFrom sound takeOne dropOne takeStep takenFrom plan releaseStep releasedFrom releasedAll releasedFlags fitParts unfit soundWorld release judgeHead judgeRegister lastOf isLast judgeAppend judgeLast judgeWord judgeClass judge admitted guestWrite inReception judgeKind kindChange fetch readBurst close markEoq octetsOf clearOwn finish sendStep transmitStep receiveStep tearMark tearStep resetStep stepOf frameOf registerWrite unguardedWrite freshController applyWrite applyKind applyFrame applyStep freshMachine decodeRam decodeLater decode decimal hex8 lineOf sentLine badLine engineOf recordOf replay
+unfolding setBit clearBit run sideOf goodPtr wordOf inDescriptors ruleOf classOf classAt wordAt putWord word put emptySet has freeAt addFour dropFour freeCount inUse view fitKinds roomFor roomOf touches sop eop owner eoq td packetLength lengthOf offsetOf firstByte flagsFault lengthFault endFault sumFault behind nextFault ownFault fetchFault putLength marked lastMarked awaiting anyTearing resetOf bitOf flagsFit loaded headFault ackFault teardownFault resetFault zeroFault tearQueue byClass registerFault headWritten ackWritten written blockFault descFault judgeStep chainOf walkStep walkFrom walkAll firstStep firstsFrom sound takeOne dropOne takeStep takenFrom plan releaseStep releasedFrom releasedAll releasedFlags releasedHeads releasedBook fitParts unfit soundBook soundWorld release answerTo judgeHead judgeRegister lastOf isLast judgeAppend judgeLast judgeWord judgeClass judge admitted guestWrite inReception judgeKind kindChange fetch readBurst close markEoq octetsOf clearOwn finish sendStep transmitStep receiveStep tearMark tearStep resetStep stepOf frameOf registerWrite unguardedWrite freshController applyWrite applyKind applyFrame applyStep freshMachine decodeRam engineOf decodeLater decode decimal hex8 lineOf sentLine badLine recordOf replay
 example = refl

@@ -1,25 +1,33 @@
 -- A machine as "Both sides of each line" has it: "Kinds 0,1,2,3, initialised". Assumes nothing: these are definitions.
---     ready             a fresh machine after the four zeros, each a whole guest write
+--     hdpAddr, cpAddr q the addresses of HDP and CP of queue q; txHdp, rxHdp are those of TX0_HDP and RX0_HDP
+--     ready             a fresh machine after a zero to each register that awaits one, each a whole guest write
 --     desc d x0 .. x3   the four guest writes that lay out a descriptor at word d
---     txHdp, rxHdp      the addresses of TX0_HDP and RX0_HDP
 --     answered os a v   the number given to the write of v to a, after the operations os from `ready`
-use Prim.Native.Nat.{ℕ, _+_, _*_}
+use Prim.Native.Nat.{ℕ, zero, suc, _+_, _*_, _%_}
 use mathlib.Core.List.{List, [], _∷_, _++_}
-use Rattle.layout.specs.Layout.{addr}
+use Rattle.layout.specs.Layout.{addr, queues, channelOf}
 use Rattle.guard.specs.Answers.{numberOf}
 use Rattle.machine.specs.Machine.{Machine, Op, write, apply, runOps, freshMachine}
 
+abbrev pub hdpAddr : ℕ → ℕ
+hdpAddr q = 0x4A10_0A00 + 32 * (q % 2) + 4 * channelOf q
+
+abbrev pub cpAddr : ℕ → ℕ
+cpAddr q = hdpAddr q + 64
+
 abbrev pub txHdp : ℕ
-txHdp = 0x4A10_0A00
+txHdp = hdpAddr 0
 
 abbrev pub rxHdp : ℕ
-rxHdp = 0x4A10_0A20
+rxHdp = hdpAddr 1
 
-abbrev pub zeros : List Op
-zeros = write 0x4A10_0A00 0 ∷ write 0x4A10_0A20 0 ∷ write 0x4A10_0A40 0 ∷ write 0x4A10_0A60 0 ∷ []
+-- of the first n queues
+abbrev pub zeros : ℕ → List Op
+zeros zero = []
+zeros (suc q) = zeros q ++ write (hdpAddr q) 0 ∷ write (cpAddr q) 0 ∷ []
 
 unfoldable pub ready : Machine
-ready = runOps zeros (freshMachine (0 ∷ 1 ∷ 2 ∷ 3 ∷ []))
+ready = runOps (zeros queues) (freshMachine (0 ∷ 1 ∷ 2 ∷ 3 ∷ []))
 
 abbrev pub desc : ℕ → ℕ → ℕ → ℕ → ℕ → List Op
 desc d x0 x1 x2 x3 =

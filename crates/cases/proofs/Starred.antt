@@ -2,13 +2,14 @@
 -- Each goes through the whole guest write, from 1 and 2 down, on a machine that was initialised by guest writes.
 -- Also here: "One packet of 60 + 40 bytes takes 9" steps, and the answers of the bench's example.
 -- Assumes nothing.
-use Prim.Native.Nat.{ℕ, zero, suc, _+_, _*_}
+use Prim.Native.Nat.{ℕ, zero, suc, _+_}
 use mathlib.Core.Path.{_≡_, refl}
 use mathlib.Core.List.{List, [], _∷_, _++_}
+use Rattle.layout.specs.Bits.{setBit, clearBit}
 use Rattle.layout.specs.Run.{run}
 use lib.Dec.{eqb}
 use mathlib.Core.Bool.{false}
-use Rattle.layout.specs.Layout.{goodPtr, wordOf, inDescriptors, addr}
+use Rattle.layout.specs.Layout.{sideOf, goodPtr, wordOf, inDescriptors, addr}
 use Rattle.layout.specs.Class.{ruleOf, classOf, classAt}
 use Rattle.words.specs.Word.{wordAt, putWord, word, put}
 use Rattle.words.specs.WordSet.{emptySet, has, freeAt, addFour, dropFour, freeCount, inUse, view}
@@ -16,20 +17,21 @@ use Rattle.blocks.specs.Kinds.{fitKinds}
 use Rattle.blocks.specs.Room.{roomFor, roomOf, touches}
 use Rattle.descriptor.specs.Fields.{sop, eop, owner, eoq, td, packetLength, lengthOf, offsetOf, firstByte}
 use Rattle.descriptor.specs.Rules.{flagsFault, lengthFault, endFault, sumFault, behind, nextFault, ownFault, fetchFault}
-use Rattle.descriptor.specs.Marks.{setBit, clearBit, putLength, marked, lastMarked}
-use Rattle.registers.specs.Pending.{sideOf, awaiting, anyTorn, hdpOf}
-use Rattle.registers.specs.Rules.{headFault, ackFault, teardownFault, resetFault, zeroFault, byClass, registerFault, headWritten, ackWritten, written}
+use Rattle.marks.specs.Marks.{putLength, marked, lastMarked}
+use Rattle.registers.specs.Table.{hdpOf, awaiting, anyTearing, resetOf, bitOf, flagsFit, loaded}
+use Rattle.registers.specs.Rules.{headFault, ackFault, teardownFault, resetFault, zeroFault, tearQueue, byClass, registerFault, headWritten, ackWritten, written}
 use Rattle.chain.specs.Chain.{blockFault, descFault, judgeStep, chainOf}
 use Rattle.book.specs.Sound.{walkStep, walkFrom, walkAll, firstStep, firstsFrom, sound}
 use Rattle.book.specs.HandOver.{takeOne, dropOne, takeStep, takenFrom}
-use Rattle.book.specs.Release.{plan, releaseStep, releasedFrom, releasedAll, releasedFlags}
-use Rattle.book.specs.World.{fitParts, unfit, soundWorld, release}
+use Rattle.book.specs.Release.{plan, releaseStep, releasedFrom, releasedAll, releasedFlags, releasedHeads, releasedBook}
+use Rattle.book.specs.World.{fitParts, unfit, soundBook, soundWorld, release}
+use Rattle.guard.specs.Answers.{numberOf, answerTo}
 use Rattle.guard.specs.Judges.{judgeHead, judgeRegister, lastOf, isLast, judgeAppend, judgeLast, judgeWord, judgeClass, judge}
-use Rattle.guard.specs.Guard.{admitted, guestWrite, inReception, judgeKind, kindChange}
+use Rattle.guard.specs.Guard.{admitted, guestWrite}
+use Rattle.kinds.specs.Kinds.{inReception, judgeKind, kindChange}
 use Rattle.phases.specs.Transmit.{fetch, readBurst, close, markEoq, octetsOf, clearOwn, finish, sendStep}
 use Rattle.controller.specs.Controller.{transmitStep, receiveStep, tearMark, tearStep, resetStep, stepOf, frameOf, registerWrite, unguardedWrite, freshController}
-use Rattle.guard.specs.Answers.{numberOf}
-use Rattle.controller.specs.declared.Engine.the-variants.{Transmit}
+use Rattle.phases.specs.declared.Engine.the-variants.{Transmit}
 use Rattle.machine.specs.Machine.{Machine, Op, write, kind, step, apply, runOps, applyWrite, applyKind, applyFrame, applyStep, freshMachine}
 use Rattle.cases.proofs.Scene.{txHdp, rxHdp, ready, desc, answered}
 
@@ -49,10 +51,10 @@ rxChain d = answered (desc d 0 0x8000_1000 1 0x2000_0000 ++ desc 0 (addr d) 0x80
 -- the machine after a packet of 60 + 40 bytes was started, and after n transmit steps more
 unfoldable pub sending : ℕ → Machine
 sending zero = runOps (txTwo 100 ++ write txHdp (addr 0) ∷ []) ready
-sending (suc n) = apply (step Transmit) (sending n) .machine
+sending (suc n) = apply (step (Transmit 0)) (sending n) .machine
 
 unfoldable pub hdpAfter : ℕ → ℕ
-hdpAfter n = hdpOf (sending n .ctl .regs) 0
+hdpAfter n = hdpOf (sending n .ctl .state) 0
 
 -- the table, one fact for each starred half line
 pub record Starred : Type 0 where
@@ -85,7 +87,7 @@ pub record Starred : Type 0 where
   pub example-kind-0 : numberOf (apply (kind 1 2) (freshMachine (0 ∷ 1 ∷ 2 ∷ 3 ∷ [])) .answer) ≡ 0
 
 pub starred : Starred
-unfolding run goodPtr wordOf inDescriptors ruleOf classOf classAt wordAt putWord word put emptySet has freeAt addFour dropFour freeCount inUse view fitKinds roomFor roomOf touches sop eop owner eoq td packetLength lengthOf offsetOf firstByte flagsFault lengthFault endFault sumFault behind nextFault ownFault fetchFault setBit clearBit putLength marked lastMarked sideOf awaiting anyTorn headFault ackFault teardownFault resetFault zeroFault byClass registerFault headWritten ackWritten written blockFault descFault judgeStep chainOf walkStep walkFrom walkAll firstStep firstsFrom sound takeOne dropOne takeStep takenFrom plan releaseStep releasedFrom releasedAll releasedFlags fitParts unfit soundWorld release judgeHead judgeRegister lastOf isLast judgeAppend judgeLast judgeWord judgeClass judge admitted guestWrite inReception judgeKind kindChange fetch readBurst close markEoq octetsOf clearOwn finish sendStep transmitStep receiveStep tearMark tearStep resetStep stepOf frameOf registerWrite unguardedWrite freshController applyWrite applyKind applyFrame applyStep freshMachine ready answered rxOne txOne txTwo rxChain sending hdpAfter
+unfolding setBit clearBit run sideOf goodPtr wordOf inDescriptors ruleOf classOf classAt wordAt putWord word put emptySet has freeAt addFour dropFour freeCount inUse view fitKinds roomFor roomOf touches sop eop owner eoq td packetLength lengthOf offsetOf firstByte flagsFault lengthFault endFault sumFault behind nextFault ownFault fetchFault putLength marked lastMarked awaiting anyTearing resetOf bitOf flagsFit loaded headFault ackFault teardownFault resetFault zeroFault tearQueue byClass registerFault headWritten ackWritten written blockFault descFault judgeStep chainOf walkStep walkFrom walkAll firstStep firstsFrom sound takeOne dropOne takeStep takenFrom plan releaseStep releasedFrom releasedAll releasedFlags releasedHeads releasedBook fitParts unfit soundBook soundWorld release answerTo judgeHead judgeRegister lastOf isLast judgeAppend judgeLast judgeWord judgeClass judge admitted guestWrite inReception judgeKind kindChange fetch readBurst close markEoq octetsOf clearOwn finish sendStep transmitStep receiveStep tearMark tearStep resetStep stepOf frameOf registerWrite unguardedWrite freshController applyWrite applyKind applyFrame applyStep freshMachine ready answered rxOne txOne txTwo rxChain sending hdpAfter
 starred = record {
   hdp-4A103FF0-0 = refl;
   hdp-4A103FF4-12 = refl;

@@ -8,11 +8,16 @@
 use blocks::Room;
 use descriptor::Descriptor;
 use descriptor::Place;
+use layout::BAD_POINTER;
+use layout::NOT_PERMITTED;
+use layout::OVERLAP;
 use layout::Side;
+use layout::Words;
 use layout::word_number;
 ghost use mathlib.Core.Path.{_≡_};
 ghost use Prim.Native.Nat.{_≤_};
 ghost use lib.ListN.{length};
+ghost use Rattle.layout.specs.Layout.{descBytes};
 ghost use Rattle.words.specs.Word.{word};
 ghost use Rattle.words.specs.WordSet.{view};
 ghost use Rattle.blocks.specs.Room.{roomOf};
@@ -20,13 +25,6 @@ ghost use Rattle.descriptor.specs.Fields.{lengthOf, firstByte};
 ghost use Rattle.descriptor.specs.Rules.{lengthFault};
 ghost use Rattle.chain.specs.Chain.{blockFault, descFault, judgeStep, chainOf, placeOf, verdictOf};
 ghost use Rattle.chain.specs.Hands.{packed, unpacked, faultAt, transmitPast, transmitStep, receiveStep};
-
-// Refusal numbers.
-pub const BAD_POINTER: u8 = 12;
-
-pub const WORD_MET: u8 = 13;
-
-pub const BUFFER_BARRED: u8 = 16;
 
 // A refusal number and its place travel as one number, with the refusal number in the low byte.
 const LOW_BYTE: u64 = 256;
@@ -81,14 +79,14 @@ fn block_fault(kinds: &[u8], side: Side, d: Descriptor) -> u8
     let room = buffer_room(kinds, side, d);
     match room {
         Room::Free => 0,
-        Room::Barred(_) => BUFFER_BARRED,
-        Room::Outside => BUFFER_BARRED,
+        Room::Barred(_) => NOT_PERMITTED,
+        Room::Outside => NOT_PERMITTED,
     }
 }
 
 // Rules 14 to 17 of the descriptor at word k: the lowest number.
 fn descriptor_fault(m: &[u8], kinds: &[u8], pl: Place, k: usize) -> u8
-    requires { ⌜ (length (now m) ≡ 8192) × (k ≤ 2044) ⌝ }
+    requires { ⌜ (length (now m) ≡ descBytes) × (k ≤ 2044) ⌝ }
     ensures { λ r. ⌜ r ≡ descFault (now (kinds .entry)) (word (now (m .entry))) pl k ⌝ }
 {
     let d = descriptor::descriptor_at(m, k);
@@ -113,8 +111,8 @@ fn descriptor_fault(m: &[u8], kinds: &[u8], pl: Place, k: usize) -> u8
 }
 
 // Rules 12 and 13, then the rest, of the descriptor that a pointer names.
-fn fault_at(m: &[u8], kinds: &[u8], met: &[u8; 2048], pl: Place, at: u32) -> u8
-    requires { ⌜ length (now m) ≡ 8192 ⌝ }
+fn fault_at(m: &[u8], kinds: &[u8], met: &Words, pl: Place, at: u32) -> u8
+    requires { ⌜ length (now m) ≡ descBytes ⌝ }
     ensures { λ r. ⌜ r ≡ faultAt (now (kinds .entry)) (word (now (m .entry))) pl (view (now (met .entry))) at ⌝ }
 {
     if !layout::is_good(at) {
@@ -122,7 +120,7 @@ fn fault_at(m: &[u8], kinds: &[u8], met: &[u8; 2048], pl: Place, at: u32) -> u8
     }
     let k = word_number(at);
     if !words::is_free(met, k) {
-        return WORD_MET;
+        return OVERLAP;
     }
     descriptor_fault(m, kinds, pl, k)
 }
@@ -146,8 +144,8 @@ fn transmit_past(pl: Place, d: Descriptor) -> TransmitHand
 }
 
 // The first descriptor of a packet, judged and met.
-fn judge_start(m: &[u8], kinds: &[u8], met: &mut [u8; 2048], at: u32) -> TransmitHand
-    requires { ⌜ length (now m) ≡ 8192 ⌝ }
+fn judge_start(m: &[u8], kinds: &[u8], met: &mut Words, at: u32) -> TransmitHand
+    requires { ⌜ length (now m) ≡ descBytes ⌝ }
     ensures { λ r. ⌜ transmitStep r (view (now (met .exit))) ≡ judgeStep (now (kinds .entry)) (word (now (m .entry))) (Place.Start, view (now (met .entry)), at) ⌝ }
 {
     let n = fault_at(m, kinds, met, Place::Start, at);
@@ -163,12 +161,12 @@ fn judge_start(m: &[u8], kinds: &[u8], met: &mut [u8; 2048], at: u32) -> Transmi
 fn judge_middle(
     m: &[u8],
     kinds: &[u8],
-    met: &mut [u8; 2048],
+    met: &mut Words,
     at: u32,
     sop: u32,
     sum: u32,
 ) -> TransmitHand
-    requires { ⌜ length (now m) ≡ 8192 ⌝ }
+    requires { ⌜ length (now m) ≡ descBytes ⌝ }
     ensures { λ r. ⌜ transmitStep r (view (now (met .exit))) ≡ judgeStep (now (kinds .entry)) (word (now (m .entry))) (Place.Middle sop sum, view (now (met .entry)), at) ⌝ }
 {
     let n = fault_at(m, kinds, met, Place::Middle(sop, sum), at);
@@ -181,8 +179,8 @@ fn judge_middle(
 }
 
 // A receive descriptor, judged and met.
-fn judge_buffer(m: &[u8], kinds: &[u8], met: &mut [u8; 2048], at: u32) -> ReceiveHand
-    requires { ⌜ length (now m) ≡ 8192 ⌝ }
+fn judge_buffer(m: &[u8], kinds: &[u8], met: &mut Words, at: u32) -> ReceiveHand
+    requires { ⌜ length (now m) ≡ descBytes ⌝ }
     ensures { λ r. ⌜ receiveStep r (view (now (met .exit))) ≡ judgeStep (now (kinds .entry)) (word (now (m .entry))) (Place.Buffer, view (now (met .entry)), at) ⌝ }
 {
     let n = fault_at(m, kinds, met, Place::Buffer, at);
@@ -199,8 +197,8 @@ fn judge_buffer(m: &[u8], kinds: &[u8], met: &mut [u8; 2048], at: u32) -> Receiv
 }
 
 // The transmit chain from at, where a packet starts.
-fn start_rule(m: &&[u8], kinds: &&[u8], met: &mut [u8; 2048], at: u32) -> u64
-    requires { ⌜ length (now (now m)) ≡ 8192 ⌝ }
+fn start_rule(m: &&[u8], kinds: &&[u8], met: &mut Words, at: u32) -> u64
+    requires { ⌜ length (now (now m)) ≡ descBytes ⌝ }
     ensures { λ r. ⌜ unpacked r (view (now (met .exit))) ≡ chainOf (now (now (kinds .entry))) (word (now (now (m .entry)))) Place.Start (view (now (met .entry))) at ⌝ }
 {
     let h = judge_start(*m, *kinds, met, at);
@@ -212,8 +210,8 @@ fn start_rule(m: &&[u8], kinds: &&[u8], met: &mut [u8; 2048], at: u32) -> u64
 }
 
 // The transmit chain from at, in the middle of a packet.
-fn middle_rule(m: &&[u8], kinds: &&[u8], met: &mut [u8; 2048], at: u32, sop: u32, sum: u32) -> u64
-    requires { ⌜ length (now (now m)) ≡ 8192 ⌝ }
+fn middle_rule(m: &&[u8], kinds: &&[u8], met: &mut Words, at: u32, sop: u32, sum: u32) -> u64
+    requires { ⌜ length (now (now m)) ≡ descBytes ⌝ }
     ensures { λ r. ⌜ unpacked r (view (now (met .exit))) ≡ chainOf (now (now (kinds .entry))) (word (now (now (m .entry)))) (Place.Middle sop sum) (view (now (met .entry))) at ⌝ }
 {
     let h = judge_middle(*m, *kinds, met, at, sop, sum);
@@ -225,8 +223,8 @@ fn middle_rule(m: &&[u8], kinds: &&[u8], met: &mut [u8; 2048], at: u32, sop: u32
 }
 
 // The receive chain from at.
-fn receive_rule(m: &&[u8], kinds: &&[u8], met: &mut [u8; 2048], at: u32) -> u64
-    requires { ⌜ length (now (now m)) ≡ 8192 ⌝ }
+fn receive_rule(m: &&[u8], kinds: &&[u8], met: &mut Words, at: u32) -> u64
+    requires { ⌜ length (now (now m)) ≡ descBytes ⌝ }
     ensures { λ r. ⌜ unpacked r (view (now (met .exit))) ≡ chainOf (now (now (kinds .entry))) (word (now (now (m .entry)))) Place.Buffer (view (now (met .entry))) at ⌝ }
 {
     let h = judge_buffer(*m, *kinds, met, at);
@@ -237,8 +235,8 @@ fn receive_rule(m: &&[u8], kinds: &&[u8], met: &mut [u8; 2048], at: u32) -> u64
 }
 
 // The chain of a side by its rules.
-fn follow(side: Side, m: &[u8], kinds: &[u8], met: &mut [u8; 2048], at: u32) -> u64
-    requires { ⌜ length (now m) ≡ 8192 ⌝ }
+fn follow(side: Side, m: &[u8], kinds: &[u8], met: &mut Words, at: u32) -> u64
+    requires { ⌜ length (now m) ≡ descBytes ⌝ }
     ensures { λ r. ⌜ unpacked r (view (now (met .exit))) ≡ chainOf (now (kinds .entry)) (word (now (m .entry))) (placeOf side) (view (now (met .entry))) at ⌝ }
 {
     let words = m;
@@ -250,8 +248,8 @@ fn follow(side: Side, m: &[u8], kinds: &[u8], met: &mut [u8; 2048], at: u32) -> 
 }
 
 // What is said of a chain. met comes in with the words in use, so that 13 is one test, and goes out with the words met added.
-pub fn check_chain(side: Side, m: &[u8], kinds: &[u8], met: &mut [u8; 2048], at: u32) -> Verdict
-    requires { ⌜ length (now m) ≡ 8192 ⌝ }
+pub fn check_chain(side: Side, m: &[u8], kinds: &[u8], met: &mut Words, at: u32) -> Verdict
+    requires { ⌜ length (now m) ≡ descBytes ⌝ }
     ensures { λ r. ⌜ (r, view (now (met .exit))) ≡ verdictOf side (now (kinds .entry)) (word (now (m .entry))) (view (now (met .entry))) at ⌝ }
 {
     let v = follow(side, m, kinds, met, at);
@@ -260,7 +258,7 @@ pub fn check_chain(side: Side, m: &[u8], kinds: &[u8], met: &mut [u8; 2048], at:
         return Verdict::Good;
     }
     let place = (v / LOW_BYTE) as u32;
-    if number != BUFFER_BARRED {
+    if number != NOT_PERMITTED {
         return Verdict::Bad(Fault {
             number: number,
             place: place,

@@ -13,14 +13,15 @@ use lib.Dec.{eqb, leb}
 use lib.ListN.{length}
 use borrow.Author.Tests.{eq-eqb, ne-eqb, le-leb, lt-leb}
 use Rattle.layout.specs.Choice.{pick, both}
-use Rattle.layout.specs.Layout.{descBytes, descFirst, lengthMax, inDescriptors}
+use Rattle.layout.specs.Layout.{descBytes, descFirst, lengthMax, inDescriptors, queueOf}
+use Rattle.layout.specs.declared.Side.the-variants.{Receive}
 use Rattle.layout.specs.Class.{classAt}
 use Rattle.words.specs.Word.{put}
-use Rattle.registers.specs.Pending.{hdpOf}
+use Rattle.registers.specs.Table.{hdpOf}
 use Rattle.phases.specs.declared.Receiving.the-variants.{Fetch}
 use Rattle.phases.specs.Quiet.{waits}
 use Rattle.controller.specs.declared.Controller.{Controller}
-use Rattle.controller.specs.Controller.{Moved, Framed, answer, unlessUndefined, held, framed, setRx, frameOf, registerWrite, unguardedWrite}
+use Rattle.controller.specs.Controller.{Moved, Framed, answer, unlessUndefined, rxOf, held, framed, setRx, frameOf, registerWrite, unguardedWrite}
 
 module _ (c : Controller) (m : List ℕ) (x : Moved) where
   pub entry-unfit : length m ≢ descBytes → unlessUndefined c m x ≡ answer 1 c m
@@ -69,10 +70,10 @@ no-third h₁ h₂ h₃ = rw (h₁, h₂, h₃) refl
 
 module _ (n : ℕ) (c : Controller) where
   abbrev taken : Framed
-  taken = framed 0 (setRx (Fetch (record { first = hdpOf (c .regs) 1; stored = 0; left = n })) (c .received) c)
+  taken = framed 0 (setRx 0 (Fetch (record { first = hdpOf (c .state) (queueOf Receive 0); stored = 0; left = n })) c)
 
   abbrev unless-taken : Framed
-  unless-taken = pick (both (not (eqb (hdpOf (c .regs) 1) 0)) (both (waits (c .rx)) (not (held c 1)))) taken (framed 24 c)
+  unless-taken = pick (both (not (eqb (hdpOf (c .state) (queueOf Receive 0)) 0)) (both (waits (rxOf c 0)) (not (held c (queueOf Receive 0))))) taken (framed 24 c)
 
   pub frame-undefined : c .undefined ≡ true → frameOf n c ≡ framed 22 c
   unfolding frameOf
@@ -87,26 +88,26 @@ module _ (n : ℕ) (c : Controller) where
   frame-long u low high = at-third (framed 22 c) unless-taken (framed 23 c) u (le-leb _ _ low) (lt-leb _ _ high)
 
   module _ (u : c .undefined ≡ false) (low : 1 ≤ n) (high : n ≤ lengthMax) where
-    pub frame-headless : hdpOf (c .regs) 1 ≡ 0 → frameOf n c ≡ framed 24 c
+    pub frame-headless : hdpOf (c .state) (queueOf Receive 0) ≡ 0 → frameOf n c ≡ framed 24 c
     unfolding frameOf
     frame-headless h =
         at-last (framed 22 c) taken (framed 24 c) (framed 23 c) u (le-leb _ _ low) (le-leb _ _ high)
-        (no-first (both (waits (c .rx)) (not (held c 1))) (not-yes (eq-eqb _ _ h)))
+        (no-first (both (waits (rxOf c 0)) (not (held c (queueOf Receive 0)))) (not-yes (eq-eqb _ _ h)))
 
-    pub frame-busy : hdpOf (c .regs) 1 ≢ 0 → waits (c .rx) ≡ false → frameOf n c ≡ framed 24 c
+    pub frame-busy : hdpOf (c .state) (queueOf Receive 0) ≢ 0 → waits (rxOf c 0) ≡ false → frameOf n c ≡ framed 24 c
     unfolding frameOf
     frame-busy h w =
         at-last (framed 22 c) taken (framed 24 c) (framed 23 c) u (le-leb _ _ low) (le-leb _ _ high)
-        (no-second (not (held c 1)) (not-no (ne-eqb _ _ h)) w)
+        (no-second (not (held c (queueOf Receive 0))) (not-no (ne-eqb _ _ h)) w)
 
-    pub frame-held : hdpOf (c .regs) 1 ≢ 0 → waits (c .rx) ≡ true → held c 1 ≡ true → frameOf n c ≡ framed 24 c
+    pub frame-held : hdpOf (c .state) (queueOf Receive 0) ≢ 0 → waits (rxOf c 0) ≡ true → held c (queueOf Receive 0) ≡ true → frameOf n c ≡ framed 24 c
     unfolding frameOf
     frame-held h w e =
         at-last (framed 22 c) taken (framed 24 c) (framed 23 c) u (le-leb _ _ low) (le-leb _ _ high)
         (no-third (not-no (ne-eqb _ _ h)) w (not-yes e))
 
-pub frame-taken : (n : ℕ) (c : Controller) → c .undefined ≡ false → 1 ≤ n → n ≤ lengthMax → hdpOf (c .regs) 1 ≢ 0 → waits (c .rx) ≡ true → held c 1 ≡ false
-    → frameOf n c ≡ framed 0 (setRx (Fetch (record { first = hdpOf (c .regs) 1; stored = 0; left = n })) (c .received) c)
+pub frame-taken : (n : ℕ) (c : Controller) → c .undefined ≡ false → 1 ≤ n → n ≤ lengthMax → hdpOf (c .state) (queueOf Receive 0) ≢ 0 → waits (rxOf c 0) ≡ true → held c (queueOf Receive 0) ≡ false
+    → frameOf n c ≡ framed 0 (setRx 0 (Fetch (record { first = hdpOf (c .state) (queueOf Receive 0); stored = 0; left = n })) c)
 unfolding frameOf
 frame-taken n c u low high h w e =
     all-five (framed 22 c) _ (framed 24 c) (framed 23 c) u (le-leb _ _ low) (le-leb _ _ high) (not-no (ne-eqb _ _ h)) w (not-no e)

@@ -5,7 +5,7 @@ use Prim.Native.Nat.{ℕ}
 use mathlib.Core.Path.{_≡_, ap, _∙_, sym}
 use mathlib.Core.List.{List}
 use Rattle.controller.specs.declared.Controller.{Controller}
-use Rattle.controller.specs.declared.Engine.{Engine}
+use Rattle.phases.specs.declared.Engine.{Engine}
 use Rattle.controller.specs.declared.Stepped.{Stepped}
 use Rattle.controller.specs.declared.Arrived.{Arrived}
 use Rattle.controller.specs.Controller.{Moved, outcome, stepOf, Framed, arrival, frameOf, unguardedWrite, freshController}

@@ -1,33 +1,37 @@
 -- The controller record and every way it changes. Document 01, "The controller's steps".
+--     txOf, rxOf c ch              the phases of a channel
 --     Moved                        the record and descriptor memory afterwards, the burst made, the answer
 --     outcome r m                  the same, of what a step handed back and the memory that it left
 --     answer, undefine             nothing but an answer; undefined now and later (22)
---     transmitStep, receiveStep    one step of an engine
+--     transmitStep, receiveStep ch one step of an engine
 --     quiet c q                    engine q is "idle, waiting or, transmit only, at 1 of a new packet"
 --     tearStep q                   teardown steps 1 to 3 of a queue
 --     resetStep                    the reset
 --     moveOf e, stepOf e           the step of any engine; the same, where memory and record allow one
---     frameOf n                    a frame of n bytes arrives: 23, 24, or it is taken
+--     frameOf n                    a frame of n bytes arrives on channel 0: 23, 24, or it is taken
 --     arrival r                    the same, of what was handed back
 --     unguardedWrite a v           a guest write that no guard has judged
 --     freshController              "A fresh machine has .. zero registers, .. idle engines, and awaits all four zeros"
+-- Registers and flags are a table (crate registers), as the guard's are; no head is ever set in it.
 -- Assumes nothing: these are definitions.
 use Prim.Native.Nat.{ℕ, _+_, _-_, _/_, _%_, min}
 use mathlib.Core.Bool.{Bool, true, false, not}
 use mathlib.Core.List.{List, [], _∷_}
-use lib.ListN.{length, getD, set}
+use lib.ListN.{length, getD, set, replicate}
 use lib.Dec.{eqb, leb, ltb}
 use Rattle.layout.specs.Choice.{pick, both}
-use Rattle.layout.specs.Layout.{descFirst, descBytes, lengthMax, goodPtr, wordOf, inDescriptors}
-use Rattle.layout.specs.Class.{classAt, hdpClass, unguardedClass}
+use Rattle.layout.specs.Layout.{descFirst, descBytes, lengthMax, goodPtr, wordOf, inDescriptors, channels, queues, sideOf, channelOf, queueOf}
+use Rattle.layout.specs.Class.{classAt, hdpClass}
+use Rattle.layout.specs.declared.Side.{Side}
+use Rattle.layout.specs.declared.Side.the-variants as Sides
 use Rattle.words.specs.Word.{put}
-use Rattle.descriptor.specs.Marks.{tdMark, marked}
-use Rattle.registers.specs.Pending.{queues, tornDown, hdpOf, cpOf, tornOf, awaiting, setTorn, unmarked, setHdp, setCp, setBit}
-use Rattle.registers.specs.Rules.{registerFault, written}
-use Rattle.registers.specs.declared.Regs.{Regs}
-use Rattle.registers.specs.declared.Flags.{Flags}
+use Rattle.marks.specs.Marks.{tdMark, marked}
+use Rattle.registers.specs.Table.{stateWords, hdpOf, cpOf, tearingOf, awaiting, resetOf, setHdp, setCp, clearTearing, setResetBit, unmarked}
+use Rattle.registers.specs.Rules.{teardownDone, registerFault, written}
 use Rattle.phases.specs.declared.Burst.{Burst}
 use Rattle.phases.specs.declared.Burst.the-variants.{Quiet}
+use Rattle.phases.specs.declared.Engine.{Engine}
+use Rattle.phases.specs.declared.Engine.the-variants.{Reset, Transmit, Receive, TearTransmit, TearReceive}
 use Rattle.phases.specs.declared.Sending.{Sending}
 use Rattle.phases.specs.declared.Sending.the-variants as S
 use Rattle.phases.specs.declared.Receiving.{Receiving}
@@ -39,80 +43,61 @@ use Rattle.phases.specs.declared.Takes.the-variants as Takes
 use Rattle.phases.specs.Transmit.{sendStep}
 use Rattle.phases.specs.Receive.{takeStep}
 use Rattle.phases.specs.Quiet.{quietTx, quietRx, waits}
+use Rattle.controller.specs.declared.Channel.{Channel}
 use Rattle.controller.specs.declared.Controller.{Controller}
 use Rattle.controller.specs.declared.Stepped.{Stepped}
 use Rattle.controller.specs.declared.Arrived.{Arrived}
-use Rattle.controller.specs.declared.Engine.{Engine}
-use Rattle.controller.specs.declared.Engine.the-variants.{Reset, Transmit, Receive, TearTransmit, TearReceive}
+
+-- ---- the channels
+
+abbrev pub idleChannel : Channel
+idleChannel = record { tx = S.Idle; rx = R.Idle }
+
+-- every engine idle
+abbrev pub idleChannels : List Channel
+idleChannels = replicate channels idleChannel
+
+abbrev pub txOf : Controller → ℕ → Sending
+txOf c ch = getD (c .channels) ch idleChannel .tx
+
+abbrev pub rxOf : Controller → ℕ → Receiving
+rxOf c ch = getD (c .channels) ch idleChannel .rx
+
+abbrev pub stageOf : Controller → ℕ → ℕ
+stageOf c q = getD (c .stages) q 1
 
 -- ---- named changes of the record
-abbrev pub setRegs : Regs → Controller → Controller
-setRegs r c = record {
-  regs = r;
-  flags = c .flags;
-  stages = c .stages;
-  tx = c .tx;
-  rx = c .rx;
-  undefined = c .undefined;
-  sent = c .sent;
-  received = c .received;
-}
 
-abbrev pub setFlags : Flags → Controller → Controller
-setFlags f c = record {
-  regs = c .regs;
-  flags = f;
-  stages = c .stages;
-  tx = c .tx;
-  rx = c .rx;
-  undefined = c .undefined;
-  sent = c .sent;
-  received = c .received;
-}
+abbrev pub setState : List ℕ → Controller → Controller
+setState t c = record { state = t; stages = c .stages; channels = c .channels; undefined = c .undefined; sent = c .sent; received = c .received }
 
 abbrev pub setStage : ℕ → ℕ → Controller → Controller
 setStage q n c = record {
-  regs = c .regs;
-  flags = c .flags;
+  state = c .state;
   stages = set (c .stages) q n;
-  tx = c .tx;
-  rx = c .rx;
+  channels = c .channels;
   undefined = c .undefined;
   sent = c .sent;
   received = c .received;
 }
 
-abbrev pub setTx : Sending → ℕ → Controller → Controller
-setTx s octets c = record {
-  regs = c .regs;
-  flags = c .flags;
-  stages = c .stages;
-  tx = s;
-  rx = c .rx;
-  undefined = c .undefined;
-  sent = octets;
-  received = c .received;
-}
+abbrev pub setChannels : List Channel → Controller → Controller
+setChannels cs c = record { state = c .state; stages = c .stages; channels = cs; undefined = c .undefined; sent = c .sent; received = c .received }
 
-abbrev pub setRx : Receiving → ℕ → Controller → Controller
-setRx s octets c = record {
-  regs = c .regs;
-  flags = c .flags;
-  stages = c .stages;
-  tx = c .tx;
-  rx = s;
-  undefined = c .undefined;
-  sent = c .sent;
-  received = octets;
-}
+abbrev pub setTx : ℕ → Sending → Controller → Controller
+setTx ch s c = setChannels (set (c .channels) ch (record { tx = s; rx = rxOf c ch })) c
+
+abbrev pub setRx : ℕ → Receiving → Controller → Controller
+setRx ch s c = setChannels (set (c .channels) ch (record { tx = txOf c ch; rx = s })) c
+
+abbrev pub setTotals : ℕ → ℕ → Controller → Controller
+setTotals a b c = record { state = c .state; stages = c .stages; channels = c .channels; undefined = c .undefined; sent = a; received = b }
 
 abbrev pub setUndefined : Controller → Controller
 setUndefined c = record {
-  regs = c .regs;
-  flags = c .flags;
+  state = c .state;
   stages = c .stages;
-  tx = c .tx;
-  rx = c .rx;
+  channels = c .channels;
   undefined = true;
   sent = c .sent;
   received = c .received;
@@ -141,19 +126,24 @@ abbrev pub added : ℕ → ℕ → ℕ
 added t n = min (t + n) 0xFFFF_FFFF_FFFF_FFFF
 
 -- ---- the engines
-abbrev pub sendMoved : Sends × List ℕ → Controller → List ℕ → Moved
-sendMoved (Sends.Unfit, x) c m = undefine c m
-sendMoved (Sends.Went s, x) c m = record {
-  ctl = setRegs (setHdp 0 (s .hdp) (setCp 0 (s .cp) (c .regs))) (setTx (s .state) (added (c .sent) (s .octets)) c);
+
+-- HDP and CP of a queue
+abbrev pub setRegs : ℕ → ℕ → ℕ → Controller → Controller
+setRegs q hdp cp c = setState (setHdp q hdp (setCp q cp (c .state))) c
+
+abbrev pub sendMoved : ℕ → Sends × List ℕ → Controller → List ℕ → Moved
+sendMoved ch (Sends.Unfit, x) c m = undefine c m
+sendMoved ch (Sends.Went s, x) c m = record {
+  ctl = setRegs (queueOf Sides.Transmit ch) (s .hdp) (s .cp) (setTotals (added (c .sent) (s .octets)) (c .received) (setTx ch (s .state) c));
   mem = x;
   burst = s .burst;
   number = 0;
 }
 
-abbrev pub takeMoved : Takes × List ℕ → Controller → List ℕ → Moved
-takeMoved (Takes.Unfit, x) c m = undefine c m
-takeMoved (Takes.Went s, x) c m = record {
-  ctl = setRegs (setHdp 1 (s .hdp) (setCp 1 (s .cp) (c .regs))) (setRx (s .state) (added (c .received) (s .octets)) c);
+abbrev pub takeMoved : ℕ → Takes × List ℕ → Controller → List ℕ → Moved
+takeMoved ch (Takes.Unfit, x) c m = undefine c m
+takeMoved ch (Takes.Went s, x) c m = record {
+  ctl = setRegs (queueOf Sides.Receive ch) (s .hdp) (s .cp) (setTotals (c .sent) (added (c .received) (s .octets)) (setRx ch (s .state) c));
   mem = x;
   burst = s .burst;
   number = 0;
@@ -161,62 +151,86 @@ takeMoved (Takes.Went s, x) c m = record {
 
 -- reset or that queue's teardown is pending
 abbrev pub held : Controller → ℕ → Bool
-held c q = pick (c .flags .reset) true (tornOf (c .flags) q)
+held c q = pick (resetOf (c .state)) true (tearingOf (c .state) q)
 
-unfoldable pub transmitStep : Controller → List ℕ → Moved
-transmitStep c m = sendMoved (sendStep (held c 0) m (c .tx) (hdpOf (c .regs) 0) (cpOf (c .regs) 0)) c m
+unfoldable pub transmitStep : ℕ → Controller → List ℕ → Moved
+transmitStep ch c m =
+    let q = queueOf Sides.Transmit ch in
+    sendMoved ch (sendStep (held c q) m (txOf c ch) (hdpOf (c .state) q) (cpOf (c .state) q)) c m
 
-unfoldable pub receiveStep : Controller → List ℕ → Moved
-receiveStep c m = takeMoved (takeStep m (c .rx) (hdpOf (c .regs) 1) (cpOf (c .regs) 1)) c m
+unfoldable pub receiveStep : ℕ → Controller → List ℕ → Moved
+receiveStep ch c m =
+    let q = queueOf Sides.Receive ch in
+    takeMoved ch (takeStep m (rxOf c ch) (hdpOf (c .state) q) (cpOf (c .state) q)) c m
 
 -- ---- teardown and reset
+abbrev pub quietBy : Side → Controller → ℕ → Bool
+quietBy Sides.Transmit c ch = quietTx (txOf c ch)
+quietBy Sides.Receive c ch = quietRx (rxOf c ch)
+
 abbrev pub quiet : Controller → ℕ → Bool
-quiet c q = pick (eqb q 0) (quietTx (c .tx)) (quietRx (c .rx))
+quiet c q = quietBy (sideOf q) c (channelOf q)
+
+abbrev pub idleBy : Side → ℕ → Controller → Controller
+idleBy Sides.Transmit ch c = setTx ch S.Idle c
+idleBy Sides.Receive ch c = setRx ch R.Idle c
 
 abbrev pub setIdle : ℕ → Controller → Controller
-setIdle q c = pick (eqb q 0) (setTx S.Idle (c .sent) c) (setRx R.Idle (c .received) c)
+setIdle q c = idleBy (sideOf q) (channelOf q) c
 
 -- "(1) set TD at HDP if nonzero"
 unfoldable pub tearMark : ℕ → Controller → List ℕ → Moved
 tearMark q c m =
-    let p = hdpOf (c .regs) q in
+    let p = hdpOf (c .state) q in
     pick (eqb p 0) (answer 0 (setStage q 2 c) m)
     (pick (goodPtr p) (answer 0 (setStage q 2 c) (marked tdMark (wordOf p) m)) (undefine c m))
 
 -- "(2) HDP 0, engine idle"
 abbrev pub tearClear : ℕ → Controller → Controller
-tearClear q c = setStage q 3 (setRegs (setHdp q 0 (c .regs)) (setIdle q c))
+tearClear q c = setStage q 3 (setState (setHdp q 0 (c .state)) (setIdle q c))
 
 -- "(3) CP 0xFFFFFFFC, no longer pending"
 abbrev pub tearReport : ℕ → Controller → Controller
-tearReport q c = setStage q 1 (setRegs (setCp q tornDown (c .regs)) (setFlags (setTorn q false (c .flags)) c))
+tearReport q c = setStage q 1 (setState (clearTearing q (setCp q teardownDone (c .state))) c)
 
 -- "Teardown, when pending and that engine is idle, waiting or, transmit only, at 1 of a new packet"
 unfoldable pub tearStep : ℕ → Controller → List ℕ → Moved
 tearStep q c m =
-    let n = getD (c .stages) q 1 in
-    pick (both (tornOf (c .flags) q) (quiet c q))
+    let n = stageOf c q in
+    pick (both (tearingOf (c .state) q) (quiet c q))
     (pick (eqb n 1) (tearMark q c m)
     (pick (eqb n 2) (answer 0 (tearClear q c) m) (answer 0 (tearReport q c) m)))
     (answer 0 c m)
 
+-- both engines of a channel are quiet, and of all channels
+abbrev pub quietChannel : Channel → Bool
+quietChannel x = both (quietTx (x .tx)) (quietRx (x .rx))
+
+abbrev pub allQuiet : List Channel → Bool
+allQuiet [] = true
+allQuiet (x ∷ xs) = both (quietChannel x) (allQuiet xs)
+
 -- "Reset, when pending and both engines are so: bit cleared, engines idle, four registers await zero with their old values"
 unfoldable pub resetStep : Controller → List ℕ → Moved
 resetStep c m =
-    pick (both (c .flags .reset) (both (quiet c 0) (quiet c 1)))
-    (answer 0 (setRegs (setBit false (c .regs)) (setFlags (unmarked (c .flags)) (setIdle 0 (setIdle 1 c)))) m)
+    pick (both (resetOf (c .state)) (allQuiet (c .channels)))
+    (answer 0 (setState (setResetBit 0 (unmarked (c .state))) (setChannels idleChannels c)) m)
     (answer 0 c m)
 
 -- a memory of another size is answered 1; then an undefined controller 22
 abbrev pub unlessUndefined : Controller → List ℕ → Moved → Moved
 unlessUndefined c m x = pick (eqb (length m) descBytes) (pick (c .undefined) (answer 22 c m) x) (answer 1 c m)
 
+-- an engine of a channel that there is not cannot move
+abbrev pub onChannel : ℕ → Controller → List ℕ → Moved → Moved
+onChannel ch c m x = pick (ltb ch channels) x (answer 0 c m)
+
 abbrev pub moveOf : Engine → Controller → List ℕ → Moved
 moveOf Reset c m = resetStep c m
-moveOf Transmit c m = transmitStep c m
-moveOf Receive c m = receiveStep c m
-moveOf TearTransmit c m = tearStep 0 c m
-moveOf TearReceive c m = tearStep 1 c m
+moveOf (Transmit ch) c m = onChannel ch c m (transmitStep ch c m)
+moveOf (Receive ch) c m = onChannel ch c m (receiveStep ch c m)
+moveOf (TearTransmit ch) c m = onChannel ch c m (tearStep (queueOf Sides.Transmit ch) c m)
+moveOf (TearReceive ch) c m = onChannel ch c m (tearStep (queueOf Sides.Receive ch) c m)
 
 unfoldable pub stepOf : Engine → Controller → List ℕ → Moved
 stepOf e c m = unlessUndefined c m (moveOf e c m)
@@ -235,28 +249,32 @@ arrival r = framed (r .number) (r .ctl)
 
 unfoldable pub frameOf : ℕ → Controller → Framed
 frameOf n c =
-    let p = hdpOf (c .regs) 1 in
+    let q = queueOf Sides.Receive 0 in
+    let p = hdpOf (c .state) q in
     pick (c .undefined) (framed 22 c)
     (pick (both (leb 1 n) (leb n lengthMax))
-    (pick (both (not (eqb p 0)) (both (waits (c .rx)) (not (held c 1))))
-    (framed 0 (setRx (R.Fetch (record { first = p; stored = 0; left = n })) (c .received) c))
+    (pick (both (not (eqb p 0)) (both (waits (rxOf c 0)) (not (held c q))))
+    (framed 0 (setRx 0 (R.Fetch (record { first = p; stored = 0; left = n })) c))
     (framed 24 c))
     (framed 23 c))
 
 -- ---- a write that no guard has judged
 -- an accepted HDP write is a start unless it zeroes: "puts the transmit engine at step 1 or the receive engine to waiting"
+abbrev pub begunBy : Side → ℕ → Controller → Controller
+begunBy Sides.Transmit ch c = setTx ch S.New c
+begunBy Sides.Receive ch c = setRx ch R.Wait c
+
 abbrev pub setBegun : ℕ → Controller → Controller
-setBegun q c = pick (eqb q 0) (setTx S.New (c .sent) c) (setRx R.Wait (c .received) c)
+setBegun q c = begunBy (sideOf q) (channelOf q) c
 
 abbrev pub startsEngine : Controller → ℕ → Bool
-startsEngine c n = both (ltb n (hdpClass + queues)) (not (awaiting (c .flags)))
+startsEngine c n = both (ltb n (hdpClass + queues)) (not (awaiting (c .state)))
 
 unfoldable pub registerWrite : ℕ → ℕ → Controller → List ℕ → Moved
 registerWrite n v c m =
-    let k = registerFault (c .flags) (c .regs) n v in
-    let x = written (c .flags) (c .regs) n v in
+    let k = registerFault (c .state) n v in
     let begun = pick (startsEngine c n) (setBegun (n - hdpClass) c) c in
-    pick (eqb k 0) (answer 0 (setRegs (x .regs) (setFlags (x .flags) begun)) m)
+    pick (eqb k 0) (answer 0 (setState (written (c .state) n v) begun) m)
     (pick (eqb k 4) (answer 4 c m) (undefine c m))
 
 -- "Without the guard, a write to which the rules above give 5 to 10, read over the model's own marks and pending flags and no
@@ -272,11 +290,9 @@ unguardedWrite a v c m =
 
 unfoldable pub freshController : Controller
 freshController = record {
-  regs = record { hdp = 0 ∷ 0 ∷ []; cp = 0 ∷ 0 ∷ []; bit = false };
-  flags = record { marks = false ∷ false ∷ false ∷ false ∷ []; reset = false; torn = false ∷ false ∷ [] };
-  stages = 1 ∷ 1 ∷ [];
-  tx = S.Idle;
-  rx = R.Idle;
+  state = replicate stateWords 0;
+  stages = replicate queues 1;
+  channels = idleChannels;
   undefined = false;
   sent = 0;
   received = 0;

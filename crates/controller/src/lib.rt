@@ -1,30 +1,39 @@
 // The controller: its record, and each way in which it changes, one numbered step of document 01 at a time.
 // Promises: a step, a frame and an unguarded write each leave exactly the record, the descriptor memory, the burst and the answer
-// that 01, "The controller's steps", gives; a record unfit for its step is answered 22 and keeps its memory. What an engine's step does in
-// its phase is the crate `phases`; here it meets flags, registers, teardown, reset and totals. Knows nothing of the guard or its book.
+// that 01, "The controller's steps", gives; a record unfit for its step is answered 22 and keeps its memory.
 
 mod record; // record.rt: named changes of the record
 mod steps; // steps.rt: the steps of the whole record
 mod writes; // writes.rt: register writes that no guard has judged
 
+use layout::BAD_FRAME;
+use layout::CHANNELS;
 use layout::DESC_BYTES;
 use layout::DESC_FIRST;
+use layout::DROPPED;
 use layout::LENGTH_MAX;
+use layout::MISALIGNED;
+use layout::QUEUES;
+use layout::Side;
+use layout::UNDEFINED;
+use layout::UNFIT;
 use layout::class_at;
 use layout::is_descriptor;
 use phases::Burst;
+use phases::Engine;
 use phases::Frame;
 use phases::Receiving;
 use phases::Sending;
 use phases::receive::is_waiting;
-use record::SENDING;
-use record::TAKING;
 use record::give;
 use record::hdp_of;
+use record::idle_channels;
 use record::is_held;
+use record::queue_of;
+use record::rx_of;
 use record::set_rx;
-use registers::Flags;
-use registers::Regs;
+use registers::STATE;
+use registers::State;
 use steps::receive_step;
 use steps::reset_step;
 use steps::tear_step;
@@ -32,45 +41,23 @@ use steps::transmit_step;
 use words::put_at;
 use writes::register_write;
 ghost use mathlib.Core.Path.{_≡_};
-ghost use mathlib.Core.Bool.{not};
-ghost use Prim.Native.Nat.{_+_};
-ghost use lib.Dec.{leb, ltb};
-ghost use Rattle.layout.specs.Choice.{both};
-ghost use Rattle.layout.specs.Layout.{descFirst, descBytes, lengthMax};
 ghost use Rattle.controller.specs.Controller.{outcome, stepOf, arrival, framed, frameOf, unguardedWrite, freshController};
 
-// Answers of the controller alone, in 01's numbers.
-pub const UNFIT_MEMORY: u8 = 1;
-
-pub const MISALIGNED: u8 = 3;
-
-pub const NOT_GUARDED: u8 = 4;
-
-pub const UNDEFINED: u8 = 22;
-
-pub const BAD_FRAME: u8 = 23;
-
-pub const DROPPED: u8 = 24;
-
-// The controller record. `stages` says which teardown step comes next on each side (1, 2, else 3).
-pub struct Controller {
-    pub regs: Regs,
-    pub flags: Flags,
-    pub stages: [u8; 2],
+// The two engines of a channel, each in its phase.
+pub struct Channel {
     pub tx: Sending,
     pub rx: Receiving,
+}
+
+// The controller record. `state` holds registers and flags, as the guard's table does, and no heads; `stages` says for each queue which
+// teardown step comes next (1, 2, else 3).
+pub struct Controller {
+    pub state: State,
+    pub stages: [u8; QUEUES],
+    pub channels: [Channel; CHANNELS],
     pub undefined: bool,
     pub sent: u64,
     pub received: u64,
-}
-
-// Who takes a step: the reset, an engine, or a teardown.
-pub enum Engine {
-    Reset,
-    Transmit,
-    Receive,
-    TearTransmit,
-    TearReceive,
 }
 
 // The controller after a step, with the burst made and the answer: 0, 1 or 22.
@@ -91,17 +78,17 @@ pub fn step_by(c: Controller, m: &mut [u8], e: Engine) -> Stepped
     ensures { λ r. ⌜ outcome r (now (m .exit)) ≡ stepOf e c (now (m .entry)) ⌝ }
 {
     if m.len() != DESC_BYTES {
-        return give(c, UNFIT_MEMORY);
+        return give(c, UNFIT);
     }
     if c.undefined {
         return give(c, UNDEFINED);
     }
     match e {
         Engine::Reset => reset_step(c),
-        Engine::Transmit => transmit_step(c, m),
-        Engine::Receive => receive_step(c, m),
-        Engine::TearTransmit => tear_step(c, m, SENDING),
-        Engine::TearReceive => tear_step(c, m, TAKING),
+        Engine::Transmit(ch) => transmit_step(c, m, ch as usize),
+        Engine::Receive(ch) => receive_step(c, m, ch as usize),
+        Engine::TearTransmit(ch) => tear_step(c, m, Side::Transmit, ch as usize),
+        Engine::TearReceive(ch) => tear_step(c, m, Side::Receive, ch as usize),
     }
 }
 
@@ -112,7 +99,7 @@ fn answer_frame(c: Controller, n: u8) -> Arrived
     Arrived { ctl: c, number: n }
 }
 
-// A frame of n bytes comes.
+// A frame of n bytes comes, on channel 0.
 pub fn take_frame_by(c: Controller, n: u32) -> Arrived
     ensures { λ r. ⌜ arrival r ≡ frameOf n c ⌝ }
 {
@@ -125,15 +112,15 @@ pub fn take_frame_by(c: Controller, n: u32) -> Arrived
     if LENGTH_MAX < n {
         return answer_frame(c, BAD_FRAME);
     }
-    let first = hdp_of(c, TAKING);
+    let q = queue_of(Side::Receive, 0);
+    let first = hdp_of(c, q);
     if first == 0 {
         return answer_frame(c, DROPPED);
     }
-    let rx = c.rx;
-    if !is_waiting(rx) {
+    if !is_waiting(rx_of(c, 0)) {
         return answer_frame(c, DROPPED);
     }
-    if is_held(c, TAKING) {
+    if is_held(c, q) {
         return answer_frame(c, DROPPED);
     }
     let frame = Frame {
@@ -141,7 +128,7 @@ pub fn take_frame_by(c: Controller, n: u32) -> Arrived
         stored: 0,
         left: n,
     };
-    answer_frame(set_rx(c, Receiving::Fetch(frame), c.received), 0)
+    answer_frame(set_rx(c, 0, Receiving::Fetch(frame)), 0)
 }
 
 // A guest write that no guard has judged: the controller's own rules decide. An accepted write of the guard's goes through here too.
@@ -149,7 +136,7 @@ pub fn unguarded_write(c: Controller, m: &mut [u8], a: u32, v: u32) -> Stepped
     ensures { λ r. ⌜ outcome r (now (m .exit)) ≡ unguardedWrite a v c (now (m .entry)) ⌝ }
 {
     if m.len() != DESC_BYTES {
-        return give(c, UNFIT_MEMORY);
+        return give(c, UNFIT);
     }
     if c.undefined {
         return give(c, UNDEFINED);
@@ -168,24 +155,11 @@ pub fn unguarded_write(c: Controller, m: &mut [u8], a: u32, v: u32) -> Stepped
 pub fn fresh() -> Controller
     ensures { λ r. ⌜ r ≡ freshController ⌝ }
 {
-    let regs = Regs {
-        hdp: [0; 2],
-        cp: [0; 2],
-        bit: false,
-    };
-    let flags = Flags {
-        marks: [false; 4],
-        reset: false,
-        torn: [false; 2],
-    };
-    let tx = Sending::Idle;
-    let rx = Receiving::Idle;
+    let channels = idle_channels();
     Controller {
-        regs: regs,
-        flags: flags,
-        stages: [1; 2],
-        tx: tx,
-        rx: rx,
+        state: [0; STATE],
+        stages: [1; QUEUES],
+        channels: channels,
         undefined: false,
         sent: 0,
         received: 0,

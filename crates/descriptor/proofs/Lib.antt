@@ -1,4 +1,1 @@
-pub mod BitLaws
-pub mod FlagLaws
-pub mod MarkLaws
 pub mod RuleLaws

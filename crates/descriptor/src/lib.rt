@@ -1,51 +1,42 @@
-// Descriptors: their four words taken apart, the rules 14, 15 and 17 of one descriptor, and the controller's marks in one.
-// Promises: each rule gives its refusal number exactly where document 01 gives it, by the words alone; a mark changes the bits
-// that its step names and nothing else of descriptor memory, and is handed only the sixteen bytes of its own descriptor.
-// Document 01, "Memory, blocks and descriptors", "Judging", "The controller's steps".
+// Descriptors: their four words taken apart, and the rules 14, 15 and 17 of one descriptor.
+// Promises: a field is read from the bits that document 01 gives it; each rule gives its refusal number exactly where 01 gives it, by the
+// words alone. The guard's chain check and the controller's fetch share them.
+// Document 01, "Memory, blocks and descriptors", "Judging".
 
 use layout::ADDRESS_END;
+use layout::BAD_LENGTH;
+use layout::FLAGS;
+use layout::LENGTH_MAX;
 use layout::Side;
-use words::read_word;
+use layout::UNFINISHED;
+use layout::has_bit;
 use words::word_of;
-use words::write_word;
 ghost use mathlib.Core.Path.{_≡_};
-ghost use mathlib.Core.Logic.{_≢_};
-ghost use Prim.Native.Nat.{_+_, _-_, _*_, _/_, _%_, _^_, _≤_, _<_, min};
-ghost use lib.Dec.{eqb};
+ghost use Prim.Native.Nat.{_+_, _≤_, _<_, _^_, min};
 ghost use lib.ListN.{length};
 ghost use Rattle.layout.specs.Choice.{pick};
-ghost use Rattle.layout.specs.Layout.{wordMax};
-ghost use Rattle.words.specs.Word.{wordAt, putWord, word, put};
-ghost use Rattle.descriptor.specs.Fields.{descAt, sop, eop, owner, eoq, td, packetLength, lengthOf, firstByte};
+ghost use Rattle.layout.specs.Layout.{descBytes, wordMax};
+ghost use Rattle.words.specs.Word.{word};
+ghost use Rattle.descriptor.specs.Fields.{descAt, sop, eop, owner, eoq, td, longEnd, packetLength, lengthOf, firstByte};
 ghost use Rattle.descriptor.specs.Rules.{sideAt, endFlagsFault, flagsFault, offsetBad, lengthFault, sopAt, sumAt, endFault, sumFault, behind, nextFault, ownFault, fetchFault};
-ghost use Rattle.descriptor.specs.Marks.{putLength, eoqMark, ownerMark, tdMark, lastMark, firstMark, changed, Fits, marked, lastMarked};
 
-// The flags of word 3, each by its weight.
-const SOP: u32 = 0x8000_0000;
+// The flags of word 3, by bit number.
+pub const SOP: u32 = 31;
 
-const EOP: u32 = 0x4000_0000;
+pub const EOP: u32 = 30;
 
-const OWNER: u32 = 0x2000_0000;
+pub const OWNER: u32 = 29;
 
-const EOQ: u32 = 0x1000_0000;
+pub const EOQ: u32 = 28;
 
-const TD: u32 = 0x0800_0000;
+pub const TD: u32 = 27;
 
-const OVERRUN: u32 = 0x0040_0000;
-
-// One past the largest length of a receive buffer, and of a transmit buffer.
-const SHORT_END: u32 = 0x800;
+// One past the largest length of a packet and of a receive buffer, and of a transmit buffer.
+pub const SHORT_END: u32 = LENGTH_MAX + 1;
 
 const LONG_END: u32 = 0x1_0000;
 
 const WORD_MAX: u32 = 0xFFFF_FFFF;
-
-// Refusal numbers.
-pub const BAD_FLAGS: u8 = 14;
-
-pub const BAD_LENGTH: u8 = 15;
-
-pub const BAD_PACKET: u8 = 17;
 
 // Where in a chain a descriptor stands: at the start of a packet; in the middle of one, with the SOP descriptor's word 3
 // and the sum of the lengths so far; or a receive buffer.
@@ -65,7 +56,7 @@ pub struct Descriptor {
 
 // The descriptor whose first word is word d.
 pub fn descriptor_at(m: &[u8], d: usize) -> Descriptor
-    requires { ⌜ (length (now m) ≡ 8192) × (d ≤ 2044) ⌝ }
+    requires { ⌜ (length (now m) ≡ descBytes) × (d ≤ 2044) ⌝ }
     ensures { λ r. ⌜ r ≡ descAt (word (now (m .entry))) d ⌝ }
 {
     Descriptor {
@@ -77,34 +68,34 @@ pub fn descriptor_at(m: &[u8], d: usize) -> Descriptor
 }
 
 // The flags and the packet length of word 3.
-pub fn has_sop(x3: u32) -> bool
+fn has_sop(x3: u32) -> bool
     ensures { λ r. ⌜ r ≡ sop x3 ⌝ }
 {
-    x3 / SOP % 2 == 1
+    has_bit(x3, SOP)
 }
 
 pub fn has_eop(x3: u32) -> bool
     ensures { λ r. ⌜ r ≡ eop x3 ⌝ }
 {
-    x3 / EOP % 2 == 1
+    has_bit(x3, EOP)
 }
 
 pub fn has_owner(x3: u32) -> bool
     ensures { λ r. ⌜ r ≡ owner x3 ⌝ }
 {
-    x3 / OWNER % 2 == 1
+    has_bit(x3, OWNER)
 }
 
 pub fn has_eoq(x3: u32) -> bool
     ensures { λ r. ⌜ r ≡ eoq x3 ⌝ }
 {
-    x3 / EOQ % 2 == 1
+    has_bit(x3, EOQ)
 }
 
 pub fn has_td(x3: u32) -> bool
     ensures { λ r. ⌜ r ≡ td x3 ⌝ }
 {
-    x3 / TD % 2 == 1
+    has_bit(x3, TD)
 }
 
 pub fn packet_length(x3: u32) -> u32
@@ -115,7 +106,7 @@ pub fn packet_length(x3: u32) -> u32
 
 // The length in word 2.
 pub fn length_of(side: Side, x2: u32) -> u32
-    ensures { λ r. ⌜ (r ≡ lengthOf side x2) × (r < 65536) ⌝ }
+    ensures { λ r. ⌜ (r ≡ lengthOf side x2) × (r < longEnd) ⌝ }
 {
     match side {
         Side::Transmit => x2 % LONG_END,
@@ -159,10 +150,10 @@ fn end_flags_fault(x3: u32) -> u8
     ensures { λ r. ⌜ r ≡ endFlagsFault x3 ⌝ }
 {
     if has_eoq(x3) {
-        return BAD_FLAGS;
+        return FLAGS;
     }
     if has_td(x3) {
-        return BAD_FLAGS;
+        return FLAGS;
     }
     0
 }
@@ -172,10 +163,10 @@ fn start_flags(x3: u32) -> u8
     ensures { λ r. ⌜ r ≡ flagsFault Place.Start x3 ⌝ }
 {
     if !has_sop(x3) {
-        return BAD_FLAGS;
+        return FLAGS;
     }
     if !has_owner(x3) {
-        return BAD_FLAGS;
+        return FLAGS;
     }
     end_flags_fault(x3)
 }
@@ -185,7 +176,7 @@ fn middle_flags(s: u32, n: u32, x3: u32) -> u8
     ensures { λ r. ⌜ r ≡ flagsFault (Place.Middle s n) x3 ⌝ }
 {
     if has_sop(x3) {
-        return BAD_FLAGS;
+        return FLAGS;
     }
     end_flags_fault(x3)
 }
@@ -195,13 +186,13 @@ fn buffer_flags(x3: u32) -> u8
     ensures { λ r. ⌜ r ≡ flagsFault Place.Buffer x3 ⌝ }
 {
     if !has_owner(x3) {
-        return BAD_FLAGS;
+        return FLAGS;
     }
     if has_sop(x3) {
-        return BAD_FLAGS;
+        return FLAGS;
     }
     if has_eop(x3) {
-        return BAD_FLAGS;
+        return FLAGS;
     }
     end_flags_fault(x3)
 }
@@ -279,13 +270,13 @@ pub fn sum_at(pl: Place, x2: u32) -> u32
 }
 
 // Rule 17 at the end of a packet.
-pub fn end_fault(sop: u32, sum: u32) -> u8
+fn end_fault(sop: u32, sum: u32) -> u8
     ensures { λ r. ⌜ r ≡ endFault sop sum ⌝ }
 {
     if sum == packet_length(sop) {
         return 0;
     }
-    BAD_PACKET
+    UNFINISHED
 }
 
 // Rule 17 at this descriptor, where it is the packet's last. On a receive buffer word and sum are both 0, and agree.
@@ -329,13 +320,13 @@ pub fn next_fault(pl: Place, x0: u32) -> u8
     }
     match pl {
         Place::Start => 0,
-        Place::Middle(_, _) => BAD_PACKET,
+        Place::Middle(_, _) => UNFINISHED,
         Place::Buffer => 0,
     }
 }
 
 // The lowest number of a descriptor by itself: 14, then 15, then 17 at EOP.
-pub fn own_fault(pl: Place, x1: u32, x2: u32, x3: u32) -> u8
+fn own_fault(pl: Place, x1: u32, x2: u32, x3: u32) -> u8
     ensures { λ r. ⌜ r ≡ ownFault pl x1 x2 x3 ⌝ }
 {
     let flags = flags_fault(pl, x3);
@@ -358,163 +349,4 @@ pub fn fetch_fault(pl: Place, x0: u32, x1: u32, x2: u32, x3: u32) -> u8
         return own;
     }
     next_fault(behind(pl, x2, x3), x0)
-}
-
-// A word with the bit of weight n set. Whoever names the weight knows that the sum fits.
-fn set_bit(w: u32, n: u32) -> u32
-    requires { ⌜ (1 ≤ n) × (w / n % 2 ≢ 1 → w + n < 2 ^ 32) ⌝ }
-    ensures { λ r. ⌜ r ≡ pick (eqb (w / n % 2) 1) w (w + n) ⌝ }
-{
-    if w / n % 2 == 1 {
-        return w;
-    }
-    w + n
-}
-
-// A word with the bit of weight n clear.
-fn clear_bit(w: u32, n: u32) -> u32
-    requires { ⌜ (1 ≤ n) × (w / n % 2 ≡ 1 → n ≤ w) ⌝ }
-    ensures { λ r. ⌜ r ≡ pick (eqb (w / n % 2) 1) (w - n) w ⌝ }
-{
-    if w / n % 2 == 1 {
-        return w - n;
-    }
-    w
-}
-
-// A word with n as its packet length, or as a receive buffer's length.
-pub fn put_length(n: u32, w: u32) -> u32
-    requires { ⌜ n < 2048 ⌝ }
-    ensures { λ r. ⌜ r ≡ putLength n w ⌝ }
-{
-    w - w % SHORT_END + n
-}
-
-// Transmit step 4.
-pub fn eoq_mark(x3: u32) -> u32
-    ensures { λ r. ⌜ r ≡ eoqMark x3 ⌝ }
-{
-    set_bit(x3, EOQ)
-}
-
-// Transmit step 5.
-pub fn owner_mark(x3: u32) -> u32
-    ensures { λ r. ⌜ r ≡ ownerMark x3 ⌝ }
-{
-    clear_bit(x3, OWNER)
-}
-
-// Teardown step 1.
-pub fn td_mark(x3: u32) -> u32
-    ensures { λ r. ⌜ r ≡ tdMark x3 ⌝ }
-{
-    set_bit(x3, TD)
-}
-
-// Receive step 4, in word 3.
-pub fn last_mark(latched: u32, x3: u32) -> u32
-    ensures { λ r. ⌜ r ≡ lastMark latched x3 ⌝ }
-{
-    let ended = set_bit(x3, EOP);
-    if latched == 0 {
-        return set_bit(ended, EOQ);
-    }
-    ended
-}
-
-// Receive step 5, in word 3.
-pub fn first_mark(stored: u32, overrun: bool, x3: u32) -> u32
-    requires { ⌜ stored < 2048 ⌝ }
-    ensures { λ r. ⌜ r ≡ firstMark stored overrun x3 ⌝ }
-{
-    let begun = set_bit(put_length(stored, x3), SOP);
-    if overrun {
-        return clear_bit(set_bit(begun, OVERRUN), OWNER);
-    }
-    clear_bit(clear_bit(begun, OVERRUN), OWNER)
-}
-
-// One word's mark, as the marking leaf takes it.
-enum Mark {
-    Eoq,
-    Owner,
-    Td,
-    Length(u32),
-    Last(u32),
-    First(u32, bool),
-}
-
-// The word with its mark.
-fn mark_word(k: Mark, w: u32) -> u32
-    requires { ⌜ Fits k ⌝ }
-    ensures { λ r. ⌜ r ≡ changed k w ⌝ }
-{
-    match k {
-        Mark::Eoq => eoq_mark(w),
-        Mark::Owner => owner_mark(w),
-        Mark::Td => td_mark(w),
-        Mark::Length(n) => put_length(n, w),
-        Mark::Last(latched) => last_mark(latched, w),
-        Mark::First(stored, overrun) => first_mark(stored, overrun, w),
-    }
-}
-
-// Marks word i of the descriptor whose sixteen bytes these are.
-fn mark_part(part: &mut [u8], i: usize, k: Mark)
-    requires { ⌜ (length (now part) ≡ 16) × (i < 4) × Fits k ⌝ }
-    ensures { λ _. ⌜ now (part .exit) ≡ putWord (now (part .entry)) (4 * i) (changed k (wordAt (now (part .entry)) (4 * i))) ⌝ }
-{
-    let w = read_word(&part[..], 4 * i);
-    write_word(part, 4 * i, mark_word(k, w));
-}
-
-// Marks word i of the descriptor at word d: its sixteen bytes are lent on.
-fn mark_at(m: &mut [u8], d: usize, i: usize, k: Mark)
-    requires { ⌜ (length (now m) ≡ 8192) × (d ≤ 2044) × (i < 4) × Fits k ⌝ }
-    ensures { λ _. ⌜ now (m .exit) ≡ put (now (m .entry)) (d + i) (changed k (word (now (m .entry)) (d + i))) ⌝ }
-{
-    let a = 4 * d;
-    let e = a + 16;
-    mark_part(&mut m[a..e], i, k);
-}
-
-// Transmit step 4: sets EOQ in the descriptor at word d.
-pub fn mark_eoq(m: &mut [u8], d: usize)
-    requires { ⌜ (length (now m) ≡ 8192) × (d ≤ 2044) ⌝ }
-    ensures { λ _. ⌜ now (m .exit) ≡ marked eoqMark d (now (m .entry)) ⌝ }
-{
-    mark_at(m, d, 3, Mark::Eoq);
-}
-
-// Transmit step 5: clears OWNER.
-pub fn mark_owner(m: &mut [u8], d: usize)
-    requires { ⌜ (length (now m) ≡ 8192) × (d ≤ 2044) ⌝ }
-    ensures { λ _. ⌜ now (m .exit) ≡ marked ownerMark d (now (m .entry)) ⌝ }
-{
-    mark_at(m, d, 3, Mark::Owner);
-}
-
-// Teardown step 1: sets TD.
-pub fn mark_td(m: &mut [u8], d: usize)
-    requires { ⌜ (length (now m) ≡ 8192) × (d ≤ 2044) ⌝ }
-    ensures { λ _. ⌜ now (m .exit) ≡ marked tdMark d (now (m .entry)) ⌝ }
-{
-    mark_at(m, d, 3, Mark::Td);
-}
-
-// Receive step 5: the frame's first descriptor.
-pub fn mark_first(m: &mut [u8], d: usize, stored: u32, overrun: bool)
-    requires { ⌜ (length (now m) ≡ 8192) × (d ≤ 2044) × (stored < 2048) ⌝ }
-    ensures { λ _. ⌜ now (m .exit) ≡ marked (firstMark stored overrun) d (now (m .entry)) ⌝ }
-{
-    mark_at(m, d, 3, Mark::First(stored, overrun));
-}
-
-// Receive step 4: the frame's last descriptor, in word 2 and in word 3.
-pub fn mark_last(m: &mut [u8], d: usize, here: u32, latched: u32)
-    requires { ⌜ (length (now m) ≡ 8192) × (d ≤ 2044) × (here < 2048) ⌝ }
-    ensures { λ _. ⌜ now (m .exit) ≡ lastMarked here latched d (now (m .entry)) ⌝ }
-{
-    mark_at(m, d, 2, Mark::Length(here));
-    mark_at(m, d, 3, Mark::Last(latched));
 }

@@ -1,300 +1,320 @@
--- The parts put together: what a judge's parts leave is what its definition says of the whole world. Assumes nothing.
---     class-decided, class-refused, class-started   a register: without a chain, with one that is refused, with one that is taken
---     word-gives                    a word of descriptor memory
---     judge-3, address-word, address-class   which of them an address asks for
---     release-is, released-gives    the release, from its parts
---     admitted-refused, write-refused, write-gives   a whole guest write
---     fit-size, fit-unfit, unfit-size, state-fits, state-size, state-1, state-2, state-0   1 and 2 as the functions find them
-use Prim.Native.Nat.{ℕ, _+_, _-_, _/_, _%_}
-use mathlib.Core.Path.{_≡_, refl, ap, ap₂, _∙_, sym, subst}
+-- The judges by their ways: what a function finds and leaves is what the definition says of the whole world. Assumes nothing.
+--     start-refused, start-taken    the chain of a start: refused, or taken
+--     head-refused, head-zeroed, head-busy, head-start   HDP of a queue
+--     class-head, class-ruled       a register: HDP, or one that its fault and what is written decide
+--     last-nobody, last-append      which queue an append is to, and what becomes of it
+--     word-free, word-busy, word-zero, word-last   a word of descriptor memory
+--     judge-3, address-word, address-class         which of them an address asks for
+--     released-gives                after the release
+--     admitted-refused, -passed, -sound   1 or 2, or what the call itself does
+--     write-refused, write-gives, write-sound   a whole guest write
+--     state-1, state-2, state-0     1 and 2 as the functions find them
+use Prim.Native.Nat.{ℕ, _+_, _-_, _/_, _%_, _≤_, _<_}
+use mathlib.Core.Path.{_≡_, refl, ap, _∙_, sym, subst}
 use mathlib.Core.Bool.{Bool, true, false, not}
-use mathlib.Core.List.{List}
+use mathlib.Core.List.{List, [], _∷_}
 use mathlib.Core.Logic.{_≢_}
-use native.Mathlib.Nat.{sub-zero}
 use native.Mathlib.Omega.{arith}
-use lib.ListN.{length, getD}
+use lib.ListN.{length}
 use lib.Dec.{eqb, ltb}
-use borrow.Author.Tests.{eq-eqb, ne-eqb, eqb-true, not-false}
+use borrow.Author.Tests.{eq-eqb, ne-eqb, eqb-true, lt-ltb, le-ltb, not-false}
 use Rattle.layout.specs.Choice.{pick, both}
-use Rattle.layout.specs.Layout.{descFirst, descBytes, inDescriptors}
-use Rattle.layout.specs.Class.{classAt}
+use Rattle.layout.specs.Layout.{descFirst, descBytes, inDescriptors, queues, sideOf, channelOf}
+use Rattle.layout.specs.Class.{classAt, hdpClass}
 use Rattle.layout.specs.declared.Side.{Side}
-use Rattle.layout.specs.declared.Side.the-variants.{Transmit, Receive}
 use Rattle.layout.proofs.ChoiceLaws.{clash, both-left}
 use Rattle.words.specs.Word.{word, put}
 use Rattle.words.specs.WordSet.{has}
-use Rattle.registers.specs.Pending.{sideOf, awaiting}
-use Rattle.registers.specs.Rules.{headFault, registerFault, headWritten, written}
-use Rattle.registers.specs.declared.Regs.{Regs}
-use Rattle.registers.specs.declared.Flags.{Flags}
-use Rattle.registers.specs.declared.Written.{Written}
+use Rattle.blocks.specs.Kinds.{fitKinds}
+use Rattle.registers.specs.Table.{headOf, awaiting, setHead, setHdp, headsOf}
+use Rattle.registers.specs.Rules.{headNumber, registerFault, headWritten, written}
 use Rattle.chain.specs.Chain.{placeOf, chainOf}
-use Rattle.book.specs.declared.Book.{Book}
 use Rattle.book.specs.HandOver.{Uses, takenFrom}
-use Rattle.book.specs.Release.{releasedAll, releasedFlags, releaseMode}
-use Rattle.book.specs.World.{World, setMem, setHeads, setFlags, setRegs, headOf, fitParts, unfit, soundWorld, release}
+use Rattle.book.specs.World.{World, setMem, setState, setUses, fitParts, soundBook, unfit, soundWorld, release}
+use Rattle.guard.specs.declared.Effect.{Effect}
 use Rattle.guard.specs.declared.Effect.the-variants.{Plain, Started, Appended}
 use Rattle.guard.specs.declared.Answer.{Answer}
 use Rattle.guard.specs.declared.Answer.the-variants.{Accepted, Refused}
-use Rattle.guard.specs.declared.Done.{Done}
-use Rattle.guard.specs.declared.Ruling.{Ruling}
-use Rattle.guard.specs.Answers.{Outcome, accept, refuse, refusedDone, acceptedDone, ruled, worldAt, Gives}
-use Rattle.guard.specs.Judges.{started, judgeStart, judgeHead, judgeRegister, isLast, judgeAppend, judgeLast, judgeWord, judgeClass, judge}
-use Rattle.book.specs.Sound.{sound}
-use Rattle.guard.specs.Guard.{admitted, guestWrite}
-use Rattle.guard.specs.Rulings.{decided, starting, headRuling, registerRuling, handedOver, appended, Worded, answerTo, appendOutcome, lastOutcome, wordOutcome, stateFault}
+use Rattle.guard.specs.declared.Tail.{Tail}
+use Rattle.guard.specs.declared.Tail.the-variants.{Of, Nobody}
+use Rattle.guard.specs.Answers.{Outcome, accept, refuse, answerTo, worldAt, Gives}
+use Rattle.guard.specs.Judges.{started, judgeStart, judgeHead, judgeRegister, tailIn, judgeAppend, judgeLast, judgeWord, judgeClass, judge}
+use Rattle.guard.specs.Guard.{stateFault, admitted, guestWrite}
+use Rattle.guard.specs.Rulings.{handedOver, appended, ruled}
 
-module _ (m k : List ℕ) (b : Book) (u l : List ℕ) (r : Regs) where
-  -- ---- results without the tables
-  pub refused-gives : (n : ℕ) → Gives (refuse n (worldAt m k b u l r)) (refusedDone n b r) m k u l
-  refused-gives n = record { answer = refl; book = refl; regs = refl; mem = refl; kinds = refl; used = refl; lens = refl }
+-- a choice by a number that was found
+number-yes : {A : Type 0} (n : ℕ) (x y : A) → n ≡ 0 → pick (eqb n 0) x y ≡ x
+number-yes n x y e = rw (eq-eqb n 0 e) refl
 
-  written-gives : (x : Written)
-      → Gives (accept Plain (setRegs (x .regs) (setFlags (x .flags) (worldAt m k b u l r))))
-      (acceptedDone Plain (record { heads = b .heads; flags = x .flags }) (x .regs)) m k u l
-  written-gives x = record { answer = refl; book = refl; regs = refl; mem = refl; kinds = refl; used = refl; lens = refl }
+number-no : {A : Type 0} (n : ℕ) (x y : A) → n ≢ 0 → pick (eqb n 0) x y ≡ y
+number-no n x y e = rw (ne-eqb n 0 e) refl
 
-  ruled-at : (t : Bool) (n : ℕ) (x : Written)
-      → Gives (pick t (accept Plain (setRegs (x .regs) (setFlags (x .flags) (worldAt m k b u l r)))) (refuse n (worldAt m k b u l r)))
-      (pick t (acceptedDone Plain (record { heads = b .heads; flags = x .flags }) (x .regs)) (refusedDone n b r)) m k u l
-  ruled-at true n x = written-gives x
-  ruled-at false n x = refused-gives n
+pick-true : {A : Type 0} (b : Bool) (x y : A) → b ≡ true → pick b x y ≡ x
+pick-true b x y e = rw e refl
+
+pick-false : {A : Type 0} (b : Bool) (x y : A) → b ≡ false → pick b x y ≡ y
+pick-false b x y e = rw e refl
+
+-- a register judge that found a fault, and one that wrote
+pub ruled-refused : {n f : ℕ} (t t₁ : List ℕ) → n ≡ f → n ≢ 0 → (Refused n, t) ≡ ruled f t₁ t
+unfolding ruled
+ruled-refused {n} t t₁ e h = rw (← e) (sym (number-no n _ _ h))
+
+pub ruled-wrote : {n f : ℕ} (t : List ℕ) {t₁ t₂ : List ℕ} → n ≡ f → n ≡ 0 → t₂ ≡ t₁ → (Accepted Plain, t₂) ≡ ruled f t₁ t
+unfolding ruled
+ruled-wrote {n} t e h w = rw (← e, w) (sym (number-yes n _ _ h))
+
+pub answer-refused : {n : ℕ} (e : Effect) → n ≢ 0 → Refused n ≡ answerTo e n
+unfolding answerTo
+answer-refused {n} e h = sym (number-no n _ _ h)
+
+pub answer-accepted : {n : ℕ} (e : Effect) → n ≡ 0 → Accepted e ≡ answerTo e n
+unfolding answerTo
+answer-accepted {n} e h = sym (number-yes n _ _ h)
+
+-- an outcome that is another
+pub gives-as : {o p : Outcome} {r : Answer} {m k t u l : List ℕ} → o ≡ p → Gives p r m k t u l → Gives o r m k t u l
+gives-as e g = record {
+  answer = g .answer ∙ ap (λ (x : Outcome). x .answer) (sym e);
+  mem = g .mem ∙ ap (λ (x : Outcome). x .world .mem) (sym e);
+  kinds = g .kinds ∙ ap (λ (x : Outcome). x .world .kinds) (sym e);
+  state = g .state ∙ ap (λ (x : Outcome). x .world .state) (sym e);
+  used = g .used ∙ ap (λ (x : Outcome). x .world .used) (sym e);
+  lens = g .lens ∙ ap (λ (x : Outcome). x .world .lens) (sym e);
+}
+
+module _ (m k t u l : List ℕ) where
+  abbrev here : World
+  here = worldAt m k t u l
+
+  pub refused-gives : (n : ℕ) → Gives (refuse n here) (Refused n) m k t u l
+  refused-gives n = record { answer = refl; mem = refl; kinds = refl; state = refl; used = refl; lens = refl }
+
+  -- ---- a start
+
+  module _ (q p : ℕ) {side : Side} {n : ℕ} {x : Uses} (s : side ≡ sideOf q) (o : (n, x) ≡ handedOver side k (word m) (u, l) p) where
+    handed : (n, x) ≡ handedOver (sideOf q) k (word m) (u, l) p
+    handed = o ∙ ap (λ (y : Side). handedOver y k (word m) (u, l) p) s
+
+    start-refused-at : (b : Bool) (j : ℕ) (y : Uses) → (n, x) ≡ pick {A = ℕ × Uses} b (0, y) (j, (u, l)) → n ≢ 0 → (a : Outcome)
+        → Gives (pick b a (refuse j here)) (Refused n) m k t (x .0) (x .1)
+    start-refused-at true j y e h a = absurd (h (ap (λ (z : ℕ × Uses). z .0) e))
+    start-refused-at false j y e h a = record {
+      answer = ap (λ (z : ℕ × Uses). Refused (z .0)) e;
+      mem = refl;
+      kinds = refl;
+      state = refl;
+      used = ap (λ (z : ℕ × Uses). z .1 .0) e;
+      lens = ap (λ (z : ℕ × Uses). z .1 .1) e;
+    }
+
+    pub start-refused : n ≢ 0 → Gives (judgeStart q p here) (Refused n) m k t (x .0) (x .1)
+    unfolding handedOver
+    start-refused h = start-refused-at (eqb (chainOf k (word m) (placeOf (sideOf q)) u p .0) 0) _ _ handed h _
+
+    start-taken-at : (b : Bool) (j : ℕ) (y : Uses) → eqb j 0 ≡ b → (n, x) ≡ pick {A = ℕ × Uses} b (0, y) (j, (u, l)) → n ≡ 0 → (e : Effect) (t′ : List ℕ)
+        → Gives (pick b (accept e (setState t′ (setUses y here))) (refuse j here)) (Accepted e) m k t′ (x .0) (x .1)
+    start-taken-at true j y i e h f t′ = record {
+      answer = refl;
+      mem = refl;
+      kinds = refl;
+      state = refl;
+      used = ap (λ (z : ℕ × Uses). z .1 .0) e;
+      lens = ap (λ (z : ℕ × Uses). z .1 .1) e;
+    }
+    start-taken-at false j y i e h f t′ = clash (eq-eqb j 0 (sym (ap (λ (z : ℕ × Uses). z .0) e) ∙ h)) i
+
+    pub start-taken : n ≡ 0 → {c : ℕ} → c ≡ channelOf q → Gives (judgeStart q p here) (Accepted (Started side c)) m k (setHdp q p (setHead q p t)) (x .0) (x .1)
+    unfolding handedOver
+    start-taken h {c} e =
+        let g = start-taken-at (eqb (chainOf k (word m) (placeOf (sideOf q)) u p .0) 0) _ _ refl handed h (Started (sideOf q) (channelOf q)) (setHdp q p (setHead q p t)) in
+        record { answer = rw (s, e) refl ∙ g .answer; mem = g .mem; kinds = g .kinds; state = g .state; used = g .used; lens = g .lens }
 
   -- ---- HDP
-  head-decided-at : (q v : ℕ) (t1 t2 t3 : Bool) (n : ℕ) (x : Written) (c : Outcome)
-      → pick t1 (pick t2 (decided (ruled 0 x b r)) (pick t3 (starting q v b r) (decided (refusedDone 10 b r)))) (decided (refusedDone n b r)) .chain ≡ false
-      → Gives (pick t1 (pick t2 (accept Plain (setRegs (x .regs) (setFlags (x .flags) (worldAt m k b u l r)))) (pick t3 c (refuse 10 (worldAt m k b u l r)))) (refuse n (worldAt m k b u l r)))
-      (pick t1 (pick t2 (decided (ruled 0 x b r)) (pick t3 (starting q v b r) (decided (refusedDone 10 b r)))) (decided (refusedDone n b r)) .done) m k u l
-  unfolding ruled
-  head-decided-at q v true true t3 n x c e = written-gives x
-  head-decided-at q v true false true n x c e = clash refl e
-  head-decided-at q v true false false n x c e = refused-gives 10
-  head-decided-at q v false t2 t3 n x c e = refused-gives n
 
-  head-decided : (q v : ℕ) → headRuling q v b r .chain ≡ false → Gives (judgeHead q v (worldAt m k b u l r)) (headRuling q v b r .done) m k u l
-  unfolding headRuling judgeHead
-  head-decided q v e =
-      head-decided-at q v (eqb (headFault (b .flags) r q v) 0) (awaiting (b .flags)) (eqb (getD (b .heads) q 0) 0) _ _ _ e
+  module _ (q v : ℕ) {n : ℕ} (e : n ≡ headNumber t q v) where
+    pub head-refused : n ≢ 0 → Gives (judgeHead q v here) (Refused n) m k t u l
+    unfolding judgeHead
+    head-refused h = gives-as (rw (← e) (number-no n _ _ h)) (refused-gives n)
 
-  start-refused-at : (q v : ℕ) (t : Bool) (n j : ℕ) (x y : Uses) → (j, x) ≡ pick {A = ℕ × Uses} t (0, y) (n, (u, l)) → j ≢ 0
-      → Gives (pick t (accept (Started (sideOf q)) (started q v (worldAt m k b u l r))) (refuse n (worldAt m k b u l r))) (refusedDone j b r) m k (x .0) (x .1)
-  start-refused-at q v true n j x y e h = absurd (h (ap (λ (z : ℕ × Uses). z .0) e))
-  start-refused-at q v false n j x y e h = record {
-    answer = ap (λ (z : ℕ × Uses). Refused (z .0)) e;
-    book = refl;
-    regs = refl;
-    mem = refl;
-    kinds = refl;
-    used = ap (λ (z : ℕ × Uses). z .1 .0) e;
-    lens = ap (λ (z : ℕ × Uses). z .1 .1) e;
-  }
+    module _ (h : n ≡ 0) {a : Bool} (f : a ≡ awaiting t) where
+      pub head-zeroed : a ≡ true → {t′ : List ℕ} → t′ ≡ headWritten t q v → Gives (judgeHead q v here) (Accepted Plain) m k t′ u l
+      unfolding judgeHead
+      head-zeroed i w =
+          gives-as (rw (← e, ← f) (number-yes n _ _ h ∙ pick-true a _ _ i))
+          (record { answer = refl; mem = refl; kinds = refl; state = w; used = refl; lens = refl })
 
-  start-taken-at : (q v : ℕ) (t : Bool) (n j : ℕ) (x : Uses) → eqb n 0 ≡ t
-      → (j, x) ≡ pick {A = ℕ × Uses} t (0, takenFrom (word m) (sideOf q) (u, l) v) (n, (u, l)) → j ≡ 0
-      → Gives (pick t (accept (Started (sideOf q)) (started q v (worldAt m k b u l r))) (refuse n (worldAt m k b u l r))) (starting q v b r .done) m k (x .0) (x .1)
-  start-taken-at q v true n j x i e h = record {
-    answer = refl;
-    book = refl;
-    regs = refl;
-    mem = refl;
-    kinds = refl;
-    used = ap (λ (z : ℕ × Uses). z .1 .0) e;
-    lens = ap (λ (z : ℕ × Uses). z .1 .1) e;
-  }
-  start-taken-at q v false n j x i e h = clash (eq-eqb n 0 (sym (ap (λ (z : ℕ × Uses). z .0) e) ∙ h)) i
+      pub head-busy : a ≡ false → headOf t q ≢ 0 → Gives (judgeHead q v here) (Refused 10) m k t u l
+      unfolding judgeHead
+      head-busy i g = gives-as (rw (← e, ← f) (number-yes n _ _ h ∙ pick-false a _ _ i ∙ number-no (headOf t q) _ _ g)) (refused-gives 10)
 
-  head-refused-at : (q v : ℕ) (t1 t2 t3 : Bool) (n : ℕ) (x : Written) (y : Written) (c : Outcome) (d : Done) (u′ l′ : List ℕ)
-      → pick t1 (pick t2 (decided (ruled 0 x b r)) (pick t3 (starting q v b r) (decided (refusedDone 10 b r)))) (decided (refusedDone n b r)) .chain ≡ true
-      → Gives c d m k u′ l′
-      → Gives (pick t1 (pick t2 (accept Plain (setRegs (y .regs) (setFlags (y .flags) (worldAt m k b u l r)))) (pick t3 c (refuse 10 (worldAt m k b u l r)))) (refuse n (worldAt m k b u l r))) d m k u′ l′
-  head-refused-at q v true true t3 n x y c d u′ l′ e g = clash e refl
-  head-refused-at q v true false true n x y c d u′ l′ e g = g
-  head-refused-at q v true false false n x y c d u′ l′ e g = clash e refl
-  head-refused-at q v false t2 t3 n x y c d u′ l′ e g = clash e refl
-
-  head-done-at : (q v : ℕ) (t1 t2 t3 : Bool) (n : ℕ) (x : Written)
-      → pick t1 (pick t2 (decided (ruled 0 x b r)) (pick t3 (starting q v b r) (decided (refusedDone 10 b r)))) (decided (refusedDone n b r)) .chain ≡ true
-      → pick t1 (pick t2 (decided (ruled 0 x b r)) (pick t3 (starting q v b r) (decided (refusedDone 10 b r)))) (decided (refusedDone n b r)) .done ≡ starting q v b r .done
-  head-done-at q v true true t3 n x e = clash e refl
-  head-done-at q v true false true n x e = refl
-  head-done-at q v true false false n x e = clash e refl
-  head-done-at q v false t2 t3 n x e = clash e refl
-
-  module _ (q v : ℕ) (e : headRuling q v b r .chain ≡ true) (j : ℕ) (x : Uses) (o : (j, x) ≡ handedOver (sideOf q) k (word m) (u, l) v) where
-    head-refused : j ≢ 0 → Gives (judgeHead q v (worldAt m k b u l r)) (refusedDone j b r) m k (x .0) (x .1)
-    unfolding headRuling judgeHead handedOver
-    head-refused h =
-        head-refused-at q v (eqb (headFault (b .flags) r q v) 0) (awaiting (b .flags)) (eqb (getD (b .heads) q 0) 0) _ _ _ _ _ _ _ e
-        (start-refused-at q v (eqb (chainOf k (word m) (placeOf (sideOf q)) u v .0) 0) _ j x _ o h)
-
-    head-started : j ≡ 0 → Gives (judgeHead q v (worldAt m k b u l r)) (headRuling q v b r .done) m k (x .0) (x .1)
-    unfolding headRuling judgeHead handedOver
-    head-started h =
-        subst (λ (d : Done). Gives (judgeHead q v (worldAt m k b u l r)) d m k (x .0) (x .1))
-        (sym (head-done-at q v (eqb (headFault (b .flags) r q v) 0) (awaiting (b .flags)) (eqb (getD (b .heads) q 0) 0) _ _ e))
-        (head-refused-at q v (eqb (headFault (b .flags) r q v) 0) (awaiting (b .flags)) (eqb (getD (b .heads) q 0) 0) _ _ _ _ _ _ _ e
-        (start-taken-at q v (eqb (chainOf k (word m) (placeOf (sideOf q)) u v .0) 0) _ j x refl o h))
+      pub head-start : a ≡ false → headOf t q ≡ 0 → {r : Answer} {t′ u′ l′ : List ℕ} → Gives (judgeStart q v here) r m k t′ u′ l′
+          → Gives (judgeHead q v here) r m k t′ u′ l′
+      unfolding judgeHead
+      head-start i g c = gives-as (rw (← e, ← f) (number-yes n _ _ h ∙ pick-false a _ _ i ∙ number-yes (headOf t q) _ _ g)) c
 
   -- ---- any register
-  class-decided-at : (n v : ℕ) (t : Bool) (z : Ruling) → z ≡ pick t (headRuling n v b r) (decided (ruled (registerFault (b .flags) r n v) (written (b .flags) r n v) b r)) → z .chain ≡ false
-      → Gives (pick t (judgeHead n v (worldAt m k b u l r)) (judgeRegister n v (worldAt m k b u l r))) (z .done) m k u l
-  unfolding judgeRegister ruled
-  class-decided-at n v true z i e = rw i (head-decided n v (ap (λ (y : Ruling). y .chain) (sym i) ∙ e))
-  class-decided-at n v false z i e = rw i (ruled-at (eqb (registerFault (b .flags) r n v) 0) _ _)
 
-  class-chain-at : (n v : ℕ) (t : Bool) (z : Ruling) → z ≡ pick t (headRuling n v b r) (decided (ruled (registerFault (b .flags) r n v) (written (b .flags) r n v) b r)) → z .chain ≡ true
-      → (t ≡ true) × (z ≡ headRuling n v b r)
-  class-chain-at n v true z i e = (refl, i)
-  class-chain-at n v false z i e = clash e (ap (λ (y : Ruling). y .chain) i)
+  pub class-head : (n v : ℕ) {q : ℕ} → n < hdpClass + queues → q ≡ n - hdpClass → {r : Answer} {t′ u′ l′ : List ℕ} → Gives (judgeHead q v here) r m k t′ u′ l′
+      → Gives (judgeClass n v here) r m k t′ u′ l′
+  unfolding judgeClass
+  class-head n v h e g = gives-as (pick-true (ltb n (hdpClass + queues)) _ _ (lt-ltb n (hdpClass + queues) h) ∙ ap (λ (i : ℕ). judgeHead i v here) (sym e)) g
 
-  module _ (n v : ℕ) (z : Ruling) (i : z ≡ registerRuling n v b r) where
-    pub class-decided : z .chain ≡ false → Gives (judgeClass n v (worldAt m k b u l r)) (z .done) m k u l
-    unfolding registerRuling judgeClass
-    class-decided e = rw (sub-zero n) (class-decided-at n v (ltb n 2) z i e)
+  ruled-at : (b : Bool) (j : ℕ) (t₁ : List ℕ) {r : Answer} {t′ : List ℕ} → (r, t′) ≡ pick {A = Answer × List ℕ} b (Accepted Plain, t₁) (Refused j, t)
+      → Gives (pick b (accept Plain (setState t₁ here)) (refuse j here)) r m k t′ u l
+  ruled-at true j t₁ e = record { answer = ap (λ (z : Answer × List ℕ). z .0) e; mem = refl; kinds = refl; state = ap (λ (z : Answer × List ℕ). z .1) e; used = refl; lens = refl }
+  ruled-at false j t₁ e = record { answer = ap (λ (z : Answer × List ℕ). z .0) e; mem = refl; kinds = refl; state = ap (λ (z : Answer × List ℕ). z .1) e; used = refl; lens = refl }
 
-    class-is : z .chain ≡ true → (ltb n 2 ≡ true) × (z ≡ headRuling n v b r)
-    unfolding registerRuling
-    class-is e = class-chain-at n v (ltb n 2) z i e
+  pub class-ruled : (n v : ℕ) → hdpClass + queues ≤ n → {j : ℕ} {t₁ : List ℕ} → registerFault t n v ≡ j → written t n v ≡ t₁
+      → {r : Answer} {t′ : List ℕ} → (r, t′) ≡ ruled j t₁ t → Gives (judgeClass n v here) r m k t′ u l
+  unfolding judgeClass judgeRegister ruled
+  class-ruled n v h {j} {t₁} e f o =
+      gives-as (pick-false (ltb n (hdpClass + queues)) _ _ (le-ltb n (hdpClass + queues) h) ∙ rw (e, f) refl) (ruled-at (eqb j 0) j t₁ o)
 
-    pub class-refused : z .chain ≡ true → (side : Side) → side ≡ sideOf n → (j : ℕ) (x : Uses) → (j, x) ≡ handedOver side k (word m) (u, l) v → j ≢ 0
-        → Gives (judgeClass n v (worldAt m k b u l r)) (refusedDone j b r) m k (x .0) (x .1)
-    unfolding judgeClass
-    class-refused e side i j x p h =
-        let y = class-is e in
-        let o = p ∙ ap (λ (t : Side). handedOver t k (word m) (u, l) v) i in
-        rw (sub-zero n, y .0) (head-refused n v (ap (λ (z : Ruling). z .chain) (sym (y .1)) ∙ e) j x o h)
+  -- ---- an append
 
-    pub class-started : z .chain ≡ true → (side : Side) → side ≡ sideOf n → (j : ℕ) (x : Uses) → (j, x) ≡ handedOver side k (word m) (u, l) v → j ≡ 0
-        → Gives (judgeClass n v (worldAt m k b u l r)) (z .done) m k (x .0) (x .1)
-    unfolding judgeClass
-    class-started e side i j x p h =
-        let y = class-is e in
-        let o = p ∙ ap (λ (t : Side). handedOver t k (word m) (u, l) v) i in
-        rw (sub-zero n, y .0, y .1) (head-started n v (ap (λ (z : Ruling). z .chain) (sym (y .1)) ∙ e) j x o h)
+  pub last-nobody : (i v : ℕ) {z : Tail} → z ≡ tailIn (word m) i 0 (headsOf t) → z ≡ Nobody → Gives (judgeLast i v here) (Refused 11) m k t u l
+  unfolding judgeLast
+  last-nobody i v e f = gives-as (rw (← e, f) refl) (refused-gives 11)
 
-  -- ---- a word of descriptor memory
-  abbrev pub WordGives : Outcome → Worded → Type 0
-  WordGives o w = Gives o (record { answer = w .0; book = b; regs = r }) (w .2) k (w .1 .0) (w .1 .1)
+  append-at : (b : Bool) (j i v : ℕ) (y : Uses) (f : Effect) {n : ℕ} {x : Uses} {m′ : List ℕ} {a : Answer} → eqb j 0 ≡ b
+      → (n, x, m′) ≡ pick {A = ℕ × Uses × List ℕ} b (0, y, put m i v) (j, (u, l), m) → a ≡ answerTo f n
+      → Gives (pick b (accept f (setMem (put m i v) (setUses y here))) (refuse j here)) a m′ k t (x .0) (x .1)
+  unfolding answerTo
+  append-at true j i v y f d e g = record {
+    answer = g ∙ ap (λ (z : ℕ × Uses × List ℕ). answerTo f (z .0)) e;
+    mem = ap (λ (z : ℕ × Uses × List ℕ). z .2) e;
+    kinds = refl;
+    state = refl;
+    used = ap (λ (z : ℕ × Uses × List ℕ). z .1 .0) e;
+    lens = ap (λ (z : ℕ × Uses × List ℕ). z .1 .1) e;
+  }
+  append-at false j i v y f d e g = record {
+    answer = g ∙ ap (λ (z : ℕ × Uses × List ℕ). answerTo f (z .0)) e ∙ rw d refl;
+    mem = ap (λ (z : ℕ × Uses × List ℕ). z .2) e;
+    kinds = refl;
+    state = refl;
+    used = ap (λ (z : ℕ × Uses × List ℕ). z .1 .0) e;
+    lens = ap (λ (z : ℕ × Uses × List ℕ). z .1 .1) e;
+  }
 
-  eleven-gives : WordGives (refuse 11 (worldAt m k b u l r)) (Refused 11, (u, l), m)
-  eleven-gives = refused-gives 11
+  pub last-append : (i v : ℕ) {z : Tail} (q : ℕ) → z ≡ tailIn (word m) i 0 (headsOf t) → z ≡ Of q → {side : Side} → side ≡ sideOf q → {c : ℕ} → c ≡ channelOf q
+      → {n : ℕ} {x : Uses} {m′ : List ℕ} → (n, x, m′) ≡ appended side k i m (u, l) v → {a : Answer} → a ≡ answerTo (Appended side c) n
+      → Gives (judgeLast i v here) a m′ k t (x .0) (x .1)
+  unfolding judgeLast judgeAppend appended
+  last-append i v q e f {side} s {c} h o g =
+      gives-as (rw (← e, f) refl)
+      (append-at (eqb (chainOf k (word m) (placeOf (sideOf q)) u v .0) 0) _ i v _ (Appended (sideOf q) (channelOf q)) refl
+      (o ∙ ap (λ (y : Side). appended y k i m (u, l) v) s) (g ∙ rw (s, h) refl))
 
-  append-at : (side : Side) (t : Bool) (n i v : ℕ) → eqb n 0 ≡ t
-      → WordGives (pick t (accept (Appended side) (setMem (put m i v) (setHeads (b .heads) (takenFrom (word m) side (u, l) v) (worldAt m k b u l r)))) (refuse n (worldAt m k b u l r))) (
-        answerTo (Appended side) (pick {A = ℕ × Uses × List ℕ} t (0, takenFrom (word m) side (u, l) v, put m i v) (n, (u, l), m) .0),
-        pick {A = ℕ × Uses × List ℕ} t (0, takenFrom (word m) side (u, l) v, put m i v) (n, (u, l), m) .1,
-        pick {A = ℕ × Uses × List ℕ} t (0, takenFrom (word m) side (u, l) v, put m i v) (n, (u, l), m) .2,
-      )
-  append-at side true n i v e = record { answer = refl; book = refl; regs = refl; mem = refl; kinds = refl; used = refl; lens = refl }
-  append-at side false n i v e = record { answer = rw e refl; book = refl; regs = refl; mem = refl; kinds = refl; used = refl; lens = refl }
+  -- ---- a word
 
-  append-gives : (side : Side) (i v : ℕ) → WordGives (judgeAppend side i v (worldAt m k b u l r)) (appendOutcome side k i m (u, l) v)
-  unfolding judgeAppend appended
-  append-gives side i v = append-at side (eqb (chainOf k (word m) (placeOf side) u v .0) 0) _ i v refl
+  module _ (i v : ℕ) where
+    pub word-free : has u i ≡ false → {m′ : List ℕ} → m′ ≡ put m i v → Gives (judgeWord i v here) (Accepted Plain) m′ k t u l
+    unfolding judgeWord
+    word-free h e = gives-as (pick-false (has u i) _ _ h) (record { answer = refl; mem = e; kinds = refl; state = refl; used = refl; lens = refl })
 
-  pick-gives : (t : Bool) (o p : Outcome) (x y : Worded) → WordGives o x → WordGives p y → WordGives (pick t o p) (pick t x y)
-  pick-gives true o p x y g h = g
-  pick-gives false o p x y g h = h
+    module _ (h : has u i ≡ true) where
+      pub word-busy : word m i ≢ 0 → Gives (judgeWord i v here) (Refused 11) m k t u l
+      unfolding judgeWord
+      word-busy n = gives-as (rw (h, ne-eqb (word m i) 0 n) refl) (refused-gives 11)
 
-  last-gives : (i v : ℕ) → WordGives (judgeLast i v (worldAt m k b u l r)) (lastOutcome i v k m (getD (b .heads) 0 0) (getD (b .heads) 1 0) (u, l))
-  unfolding judgeLast lastOutcome
-  last-gives i v =
-      pick-gives (isLast (word m) (getD (b .heads) 0 0) i) _ _ _ _ (append-gives Transmit i v)
-      (pick-gives (isLast (word m) (getD (b .heads) 1 0) i) _ _ _ _ (append-gives Receive i v) eleven-gives)
+      pub word-zero : word m i ≡ 0 → v ≡ 0 → Gives (judgeWord i v here) (Refused 11) m k t u l
+      unfolding judgeWord
+      word-zero e f = gives-as (rw (h, eq-eqb (word m i) 0 e, eq-eqb v 0 f) refl) (refused-gives 11)
 
-  word-whole : (i v : ℕ) → WordGives (judgeWord i v (worldAt m k b u l r)) (wordOutcome i v k m (getD (b .heads) 0 0) (getD (b .heads) 1 0) (u, l))
-  unfolding judgeWord wordOutcome
-  word-whole i v =
-      pick-gives (has u i) _ _ _ _
-      (pick-gives (both (eqb (word m i) 0) (not (eqb v 0))) _ _ _ _ (last-gives i v) eleven-gives)
-      (record { answer = refl; book = refl; regs = refl; mem = refl; kinds = refl; used = refl; lens = refl })
-
-  pub word-gives : (i v : ℕ) (w : Worded) → w ≡ wordOutcome i v k m (getD (b .heads) 0 0) (getD (b .heads) 1 0) (u, l)
-      → WordGives (judgeWord i v (worldAt m k b u l r)) w
-  word-gives i v w e = subst (λ (x : Worded). WordGives (judgeWord i v (worldAt m k b u l r)) x) (sym e) (word-whole i v)
+      pub word-last : word m i ≡ 0 → v ≢ 0 → {r : Answer} {m′ t′ u′ l′ : List ℕ} → Gives (judgeLast i v here) r m′ k t′ u′ l′ → Gives (judgeWord i v here) r m′ k t′ u′ l′
+      unfolding judgeWord
+      word-last e f g = gives-as (rw (h, eq-eqb (word m i) 0 e, ne-eqb v 0 f) refl) g
 
   -- ---- an address
-  pub judge-3 : (a v : ℕ) → a % 4 ≢ 0 → Gives (judge a v (worldAt m k b u l r)) (refusedDone 3 b r) m k u l
-  unfolding judge
-  judge-3 a v h = rw (ne-eqb (a % 4) 0 h) (refused-gives 3)
 
-  -- ---- the release
-  pub release-is : (x : Book) (y : Uses) → (x .heads, y) ≡ releasedAll (word m) (releaseMode (b .flags) r) (b .heads) (u, l)
-      → x .flags ≡ releasedFlags (b .flags) r → release (worldAt m k b u l r) ≡ worldAt m k x (y .0) (y .1) r
-  unfolding release
-  release-is x y e f = sym (ap₂ (λ (z : List ℕ × Uses) (g : Flags). setFlags g (setHeads (z .0) (z .1) (worldAt m k b u l r))) e f)
+  module _ (a v : ℕ) where
+    pub judge-3 : a % 4 ≢ 0 → Gives (judge a v here) (Refused 3) m k t u l
+    unfolding judge
+    judge-3 h = gives-as (number-no (a % 4) _ _ h) (refused-gives 3)
 
-  -- ---- 1 and 2
+    module _ (h : a % 4 ≡ 0) {b : Bool} (e : b ≡ inDescriptors a) {r : Answer} {m′ t′ u′ l′ : List ℕ} where
+      pub address-class : b ≡ false → {c : ℕ} → c ≡ classAt a → Gives (judgeClass c v here) r m′ k t′ u′ l′ → Gives (judge a v here) r m′ k t′ u′ l′
+      unfolding judge
+      address-class f d g = gives-as (number-yes (a % 4) _ _ h ∙ rw (← e, f, ← d) refl) g
+
+      pub address-word : b ≡ true → {i : ℕ} → i ≡ (a - descFirst) / 4 → Gives (judgeWord i v here) r m′ k t′ u′ l′ → Gives (judge a v here) r m′ k t′ u′ l′
+      unfolding judge
+      address-word f d g = gives-as (number-yes (a % 4) _ _ h ∙ rw (← e, f, ← d) refl) g
+
+  -- ---- the release, 1 and 2
+
+  pub released-gives : (a v : ℕ) {t₁ u₁ l₁ : List ℕ} → release here ≡ worldAt m k t₁ u₁ l₁ → {r : Answer} {m′ t′ u′ l′ : List ℕ}
+      → Gives (judge a v (worldAt m k t₁ u₁ l₁)) r m′ k t′ u′ l′ → Gives (judge a v (release here)) r m′ k t′ u′ l′
+  released-gives a v e g = gives-as (ap (λ (s : World). judge a v s) e) g
+
   refused-at : (f g : Bool) (n : ℕ) (o : Outcome) → n ≡ pick f (pick g 0 2) 1 → n ≢ 0
-      → pick (not f) (refuse 1 (worldAt m k b u l r)) (pick g o (refuse 2 (worldAt m k b u l r))) ≡ refuse n (worldAt m k b u l r)
+      → Gives (pick (not f) (refuse 1 here) (pick g o (refuse 2 here))) (Refused n) m k t u l
   refused-at true true n o e h = absurd (h e)
-  refused-at true false n o e h = rw e refl
-  refused-at false g n o e h = rw e refl
+  refused-at true false n o e h = rw e (refused-gives 2)
+  refused-at false g n o e h = rw e (refused-gives 1)
 
-  pub admitted-refused : (act : World → Outcome) (n : ℕ) → n ≡ stateFault m k (b .heads) u l → n ≢ 0
-      → admitted (worldAt m k b u l r) act ≡ refuse n (worldAt m k b u l r)
-  unfolding admitted unfit soundWorld stateFault
-  admitted-refused act n e h = refused-at (fitParts m k) (sound (word m) (b .heads) u l) n _ e h
+  passed-at : (f g : Bool) (n : ℕ) (o : Outcome) → n ≡ pick f (pick g 0 2) 1 → n ≡ 0 → pick (not f) (refuse 1 here) (pick g o (refuse 2 here)) ≡ o
+  passed-at true true n o e h = refl
+  passed-at true false n o e h = absurd (omega arith)
+  passed-at false g n o e h = absurd (omega arith)
 
-  pub write-refused : (a v n : ℕ) → n ≡ stateFault m k (b .heads) u l → n ≢ 0
-      → Gives (guestWrite a v (worldAt m k b u l r)) (refusedDone n b r) m k u l
+  module _ (act : World → Outcome) {n : ℕ} (e : n ≡ stateFault m k t u l) where
+    pub admitted-refused : n ≢ 0 → Gives (admitted here act) (Refused n) m k t u l
+    unfolding admitted stateFault unfit soundWorld
+    admitted-refused h = refused-at (fitParts m k) (soundBook (word m) t u l) n (act (release here)) e h
+
+    pub admitted-passed : n ≡ 0 → admitted here act ≡ act (release here)
+    unfolding admitted stateFault unfit soundWorld
+    admitted-passed h = passed-at (fitParts m k) (soundBook (word m) t u l) n (act (release here)) e h
+
+  pub admitted-sound : (act : World → Outcome) → unfit here ≡ false → soundWorld here ≡ true → admitted here act ≡ act (release here)
+  unfolding admitted
+  admitted-sound act f s = rw (f, s) refl
+
+  pub fit-size : unfit here ≡ false → length m ≡ descBytes
+  unfolding unfit fitParts
+  fit-size f = eqb-true (length m) descBytes (both-left _ _ (not-false _ f))
+
+  pub zero-size : {n : ℕ} → n ≡ stateFault m k t u l → n ≡ 0 → length m ≡ descBytes
+  unfolding stateFault fitParts
+  zero-size {n} e h = at (eqb (length m) descBytes) (fitKinds k) refl e
+    where
+      at : (b c : Bool) → eqb (length m) descBytes ≡ b → n ≡ pick (both b c) (pick (soundBook (word m) t u l) 0 2) 1 → length m ≡ descBytes
+      at true c x y = eqb-true (length m) descBytes x
+      at false c x y = absurd (omega (arith, h, y))
+
+  pub write-refused : (a v : ℕ) {n : ℕ} → n ≡ stateFault m k t u l → n ≢ 0 → Gives (guestWrite a v here) (Refused n) m k t u l
   unfolding guestWrite
-  write-refused a v n e h = rw (admitted-refused (λ t. judge a v t) n e h) (refused-gives n)
+  write-refused a v e h = admitted-refused (λ s. judge a v s) e h
 
-module _ (a v : ℕ) (s : World) (d : Done) (m k u l : List ℕ) where
-  pub address-word : (i : ℕ) → i ≡ (a - descFirst) / 4 → a % 4 ≡ 0 → inDescriptors a ≡ true → Gives (judgeWord i v s) d m k u l → Gives (judge a v s) d m k u l
-  unfolding judge
-  address-word i e h f g = rw (eq-eqb (a % 4) 0 h, f, ← e) g
+  pub write-gives : (a v : ℕ) {n : ℕ} → n ≡ stateFault m k t u l → n ≡ 0 → {r : Answer} {m′ t′ u′ l′ : List ℕ} → Gives (judge a v (release here)) r m′ k t′ u′ l′
+      → Gives (guestWrite a v here) r m′ k t′ u′ l′
+  unfolding guestWrite
+  write-gives a v e h g = gives-as (admitted-passed (λ s. judge a v s) e h) g
 
-  pub address-class : (n : ℕ) → n ≡ classAt a → a % 4 ≡ 0 → inDescriptors a ≡ false → Gives (judgeClass n v s) d m k u l → Gives (judge a v s) d m k u l
-  unfolding judge
-  address-class n e h f g = rw (eq-eqb (a % 4) 0 h, f, ← e) g
+  pub write-sound : (a v : ℕ) → unfit here ≡ false → soundWorld here ≡ true → {r : Answer} {m′ t′ u′ l′ : List ℕ} → Gives (judge a v (release here)) r m′ k t′ u′ l′
+      → Gives (guestWrite a v here) r m′ k t′ u′ l′
+  unfolding guestWrite
+  write-sound a v f s g = gives-as (admitted-sound (λ x. judge a v x) f s) g
 
-  pub released-gives : (t : World) → release s ≡ t → Gives (judge a v t) d m k u l → Gives (judge a v (release s)) d m k u l
-  released-gives t e g = rw e g
+  -- ---- 1 and 2, as the functions find them
 
-  pub write-gives : unfit s ≡ false → soundWorld s ≡ true → Gives (judge a v (release s)) d m k u l → Gives (guestWrite a v s) d m k u l
-  unfolding guestWrite admitted
-  write-gives e f g = rw (e, f) g
+  module _ {f : Bool} (e : f ≡ fitParts m k) where
+    pub state-1 : f ≡ false → 1 ≡ stateFault m k t u l
+    unfolding stateFault
+    state-1 h = rw (← e, h) refl
 
-pub fit-size : (m k : List ℕ) → fitParts m k ≡ true → length m ≡ 8192
+    module _ (h : f ≡ true) {g : Bool} (d : g ≡ soundBook (word m) t u l) where
+      pub state-2 : g ≡ false → 2 ≡ stateFault m k t u l
+      unfolding stateFault
+      state-2 i = rw (← e, h, ← d, i) refl
+
+      pub state-0 : g ≡ true → 0 ≡ stateFault m k t u l
+      unfolding stateFault
+      state-0 i = rw (← e, h, ← d, i) refl
+
+pub parts-size : (m k : List ℕ) {f : Bool} → f ≡ fitParts m k → f ≡ true → length m ≡ descBytes
 unfolding fitParts
-fit-size m k e = eqb-true (length m) descBytes (both-left _ _ e)
-
-pub fit-unfit : (s : World) → fitParts (s .mem) (s .kinds) ≡ true → unfit s ≡ false
-unfolding unfit
-fit-unfit s e = rw e refl
-
-pub unfit-size : (s : World) → unfit s ≡ false → length (s .mem) ≡ 8192
-unfolding unfit
-unfit-size s e = fit-size (s .mem) (s .kinds) (not-false _ e)
-
-none-at : (f g : Bool) → _≡_ {A = ℕ} (pick f (pick g 0 2) 1) 0 → (f ≡ true) × (g ≡ true)
-none-at true true e = (refl, refl)
-none-at true false e = let z : _≡_ {A = ℕ} 2 0 = e in absurd (omega arith)
-none-at false g e = let z : _≡_ {A = ℕ} 1 0 = e in absurd (omega arith)
-
-pub state-fits : (s : World) (n : ℕ) → n ≡ stateFault (s .mem) (s .kinds) (s .book .heads) (s .used) (s .lens) → n ≡ 0
-    → (unfit s ≡ false) × (soundWorld s ≡ true)
-unfolding stateFault soundWorld
-state-fits s n e h =
-    let x = none-at (fitParts (s .mem) (s .kinds)) (sound (word (s .mem)) (s .book .heads) (s .used) (s .lens)) (sym e ∙ h) in
-    (fit-unfit s (x .0), x .1)
-
--- ---- the number of 1 and 2
-module _ (m k heads u l : List ℕ) where
-  pub state-1 : fitParts m k ≡ false → 1 ≡ stateFault m k heads u l
-  unfolding stateFault
-  state-1 e = rw e refl
-
-  pub state-2 : fitParts m k ≡ true → sound (word m) heads u l ≡ false → 2 ≡ stateFault m k heads u l
-  unfolding stateFault
-  state-2 e f = rw (e, f) refl
-
-  pub state-0 : fitParts m k ≡ true → sound (word m) heads u l ≡ true → 0 ≡ stateFault m k heads u l
-  unfolding stateFault
-  state-0 e f = rw (e, f) refl
-
-  pub state-size : (n : ℕ) → n ≡ stateFault m k heads u l → n ≡ 0 → length m ≡ 8192
-  unfolding stateFault
-  state-size n e h = fit-size m k (none-at (fitParts m k) (sound (word m) heads u l) (sym e ∙ h) .0)
+parts-size m k e h = eqb-true (length m) descBytes (both-left _ _ (sym e ∙ h))

@@ -1,13 +1,21 @@
 -- What the judges' definitions say, case by case, in the form that the functions' proofs cite. Assumes nothing.
 --     lastOf-is, last-none, last-stop, last-go   the last descriptor of a queue, step by step
-use Prim.Native.Nat.{ℕ, zero, suc, _-_, _<_, _≤_}
+--     tail-here, tail-next, tail-none            the queue whose last descriptor begins at a word, number by number
+--     tail-bound                                 it is one of them
+use Prim.Native.Nat.{ℕ, zero, suc, _+_, _<_, _≤_}
 use mathlib.Core.Path.{_≡_, refl, _∙_, sym}
 use mathlib.Core.Bool.{Bool, true, false}
-use mathlib.Core.List.{List}
+use mathlib.Core.List.{List, [], _∷_}
 use native.Mathlib.Omega.{arith}
+use native.Mathlib.Numerals.{add-one}
+use lib.ListN.{length, getD, take, drop}
 use Rattle.layout.specs.Choice.{pick}
 use Rattle.layout.specs.Layout.{goodPtr, wordOf, descWords}
-use Rattle.guard.specs.Judges.{lastFrom, lastOf}
+use Rattle.layout.proofs.ChoiceLaws.{clash}
+use Rattle.layout.proofs.PointerLaws.{goodPtr-zero}
+use Rattle.guard.specs.declared.Tail.{Tail}
+use Rattle.guard.specs.declared.Tail.the-variants.{Of, Nobody}
+use Rattle.guard.specs.Judges.{lastFrom, lastOf, isLast, tailIn}
 
 -- ---- the last descriptor
 pub lastOf-is : (w : ℕ → ℕ) (p : ℕ) → lastFrom w descWords p ≡ lastOf w p
@@ -31,3 +39,69 @@ last-go w (suc n) k p q e f g =
     pick-yes : (b : Bool) (x y : ℕ) → b ≡ true → pick b x y ≡ x
     pick-yes true x y r = refl
     pick-yes false x y r = let z : _≡_ {A = ℕ} 0 1 = cc in absurd (omega arith)
+
+-- ---- which queue
+-- 0 names no descriptor: a head past the end of the table ends no queue
+last-zero : (w : ℕ → ℕ) (k : ℕ) → isLast w 0 k ≡ false
+unfolding isLast
+last-zero w k = rw goodPtr-zero refl
+
+-- a head of the first n words of a table
+pub getD-head : (n : ℕ) (t : List ℕ) (q : ℕ) → q < n → getD (take n t) q 0 ≡ getD t q 0
+getD-head zero t q h = absurd (omega arith)
+getD-head (suc n) [] q h = refl
+getD-head (suc n) (x ∷ t) zero h = refl
+getD-head (suc n) (x ∷ t) (suc q) h = getD-head n t q (omega arith)
+
+module _ (w : ℕ → ℕ) (k : ℕ) where
+  tail-here-at : (n : ℕ) (hs : List ℕ) (q : ℕ) → isLast w (getD hs q 0) k ≡ true → tailIn w k n (drop q hs) ≡ Of n
+  tail-here-at n [] zero e = clash e (last-zero w k)
+  tail-here-at n [] (suc q) e = clash e (last-zero w k)
+  tail-here-at n (h ∷ hs) zero e = rw e refl
+  tail-here-at n (h ∷ hs) (suc q) e = tail-here-at n hs q e
+
+  tail-next-at : (n : ℕ) (hs : List ℕ) (q : ℕ) → isLast w (getD hs q 0) k ≡ false → tailIn w k n (drop q hs) ≡ tailIn w k (n + 1) (drop (suc q) hs)
+  tail-next-at n [] zero e = refl
+  tail-next-at n [] (suc q) e = refl
+  tail-next-at n (h ∷ hs) zero e = rw e refl
+  tail-next-at n (h ∷ hs) (suc q) e = tail-next-at n hs q e
+
+  pub tail-here : (t : List ℕ) (n q : ℕ) {o : Tail} → q < n → isLast w (getD t q 0) k ≡ true → tailIn w k q (drop q (take n t)) ≡ o → Of q ≡ o
+  tail-here t n q h e i = sym (tail-here-at q (take n t) q (rw (getD-head n t q h) e)) ∙ i
+
+  pub tail-next : (t : List ℕ) (n q : ℕ) {o : Tail} → q < n → isLast w (getD t q 0) k ≡ false → tailIn w k q (drop q (take n t)) ≡ o
+      → tailIn w k (q + 1) (drop (q + 1) (take n t)) ≡ o
+  tail-next t n q h e i = rw (ap-one (take n t)) (sym (tail-next-at q (take n t) q (rw (getD-head n t q h) e)) ∙ i)
+    where
+      ap-one : (hs : List ℕ) → drop (q + 1) hs ≡ drop (suc q) hs
+      ap-one hs = rw (add-one q) refl
+
+  tail-none-at : (m n : ℕ) (t : List ℕ) (q : ℕ) → n ≤ q → tailIn w k m (drop q (take n t)) ≡ Nobody
+  tail-none-at m zero t zero h = refl
+  tail-none-at m zero t (suc q) h = refl
+  tail-none-at m (suc n) t zero h = absurd (omega arith)
+  tail-none-at m (suc n) [] (suc q) h = refl
+  tail-none-at m (suc n) (x ∷ t) (suc q) h = tail-none-at m n t q (omega arith)
+
+  pub tail-none : (t : List ℕ) (n q : ℕ) {o : Tail} → n ≤ q → tailIn w k q (drop q (take n t)) ≡ o → Nobody ≡ o
+  tail-none t n q h i = sym (tail-none-at q n t q h) ∙ i
+
+tail-lt : (w : ℕ → ℕ) (k n : ℕ) (hs : List ℕ) (j : ℕ) → tailIn w k n hs ≡ Of j → j < n + length hs
+tail-lt w k n [] j e = let z : _≡_ {A = ℕ} 0 1 = cc in absurd (omega arith)
+tail-lt w k n (h ∷ hs) j e = at (isLast w h k) (tailIn w k (n + 1) hs) (λ f. tail-lt w k (n + 1) hs j f) e
+  where
+    at : (b : Bool) (r : Tail) → (r ≡ Of j → j < n + 1 + length hs) → pick b (Of n) r ≡ Of j → j < n + length (h ∷ hs)
+    at true r g f = let i : n ≡ j = cc in omega arith
+    at false r g f = let l = g f in omega arith
+
+-- a queue that was found is one of them
+pub tail-bound : (w : ℕ → ℕ) (k n : ℕ) (t : List ℕ) (j : ℕ) → tailIn w k 0 (take n t) ≡ Of j → j < n
+tail-bound w k n t j e =
+    let l = tail-lt w k 0 (take n t) j e in
+    let m = length-take n t in
+    omega arith
+  where
+    length-take : (n : ℕ) (t : List ℕ) → length (take n t) ≤ n
+    length-take zero t = omega arith
+    length-take (suc n) [] = omega arith
+    length-take (suc n) (x ∷ t) = let i = length-take n t in omega arith

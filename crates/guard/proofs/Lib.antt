@@ -1,6 +1,5 @@
 pub mod JudgeLaws
-pub mod RulingLaws
-pub mod TableLaws
+pub mod ChainLaws
 pub mod GivesLaws
-pub mod KindLaws
+pub mod ClassLaws
 pub mod Settled

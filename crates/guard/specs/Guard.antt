@@ -1,24 +1,20 @@
 -- A whole guard call, from 1 and 2 down to what is stored. Document 01, "Answers by number", "The book and the release",
 -- "Judging".
+--     stateFault m k t u l  1 or 2, from what they read, or 0
 --     admitted s act        1, 2, then the release, then what the call itself does
 --     guestWrite a v s      a guest write of v to address a
---     inReception w lens b  a receive buffer in the book, at its handed-over length, touches block b
---     judgeKind bs k s      the change of a list of blocks to kind k
---     kindChange b k s      the change of one block
 -- Assumes nothing: these are definitions.
-use Prim.Native.Nat.{ℕ, zero, suc, _+_}
-use mathlib.Core.Bool.{Bool, true, false, not}
-use mathlib.Core.List.{List, [], _∷_}
-use lib.ListN.{length, getD, set}
-use lib.Dec.{eqb, leb, ltb}
-use Rattle.layout.specs.Choice.{pick, both}
+use Prim.Native.Nat.{ℕ}
+use mathlib.Core.Bool.{Bool, true, false}
+use mathlib.Core.List.{List}
+use Rattle.layout.specs.Choice.{pick}
 use Rattle.words.specs.Word.{word}
-use Rattle.blocks.specs.Room.{touches}
-use Rattle.registers.specs.Pending.{every, some}
-use Rattle.book.specs.World.{World, setKinds, unfit, soundWorld, release}
-use Rattle.guard.specs.declared.Effect.the-variants.{Plain}
-use Rattle.guard.specs.Answers.{Outcome, accept, refuse}
+use Rattle.book.specs.World.{World, fitParts, soundBook, unfit, soundWorld, release}
+use Rattle.guard.specs.Answers.{Outcome, refuse}
 use Rattle.guard.specs.Judges.{judge}
+
+unfoldable pub stateFault : List ℕ → List ℕ → List ℕ → List ℕ → List ℕ → ℕ
+stateFault m kinds t used lens = pick (fitParts m kinds) (pick (soundBook (word m) t used lens) 0 2) 1
 
 -- "After 1, 2 .. nothing changes"; "Every guard call not answered 1 or 2 first releases"
 unfoldable pub admitted : World → (World → Outcome) → Outcome
@@ -26,35 +22,3 @@ admitted s act = pick (unfit s) (refuse 1 s) (pick (soundWorld s) (act (release 
 
 unfoldable pub guestWrite : ℕ → ℕ → World → Outcome
 guestWrite a v s = admitted s (λ t. judge a v t)
-
--- one flag for each word at which a length is recorded, from word k on
-abbrev pub received : (ℕ → ℕ) → ℕ → List ℕ → ℕ → Bool
-received w k [] b = false
-received w k (l ∷ ls) b = pick (touches b (w (k + 1)) l) true (received w (k + 1) ls b)
-
-unfoldable pub inReception : (ℕ → ℕ) → List ℕ → ℕ → Bool
-inReception w lens b = received w 0 lens b
-
-abbrev pub mapBool : (ℕ → Bool) → List ℕ → List Bool
-mapBool f [] = []
-mapBool f (b ∷ bs) = f b ∷ mapBool f bs
-
--- the kind table with each of some blocks of kind k
-abbrev pub kindsAfter : List ℕ → List ℕ → ℕ → List ℕ
-kindsAfter kinds [] k = kinds
-kindsAfter kinds (b ∷ bs) k = kindsAfter (set kinds b k) bs k
-
--- "Kind change: 18, 19, 20, then 21 if the new kind is not 1 and a receive buffer in the book, at its handed-over length,
--- touches the block"
-unfoldable pub judgeKind : List ℕ → ℕ → World → Outcome
-judgeKind bs k s =
-    pick (every (mapBool (λ b. ltb b (length (s .kinds))) bs))
-    (pick (both (leb 1 k) (leb k 4))
-    (pick (some (mapBool (λ b. eqb (getD (s .kinds) b 0) 0) bs)) (refuse 20 s)
-    (pick (both (not (eqb k 1)) (some (mapBool (λ b. inReception (word (s .mem)) (s .lens) b) bs))) (refuse 21 s)
-    (accept Plain (setKinds (kindsAfter (s .kinds) bs k) s))))
-    (refuse 19 s))
-    (refuse 18 s)
-
-unfoldable pub kindChange : ℕ → ℕ → World → Outcome
-kindChange b k s = admitted s (λ t. judgeKind (b ∷ []) k t)

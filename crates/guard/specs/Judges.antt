@@ -3,29 +3,30 @@
 --     judgeHead q v s             HDP of queue q
 --     judgeRegister n v s         any other register, by its class
 --     lastFrom w n p, lastOf, isLast   the last descriptor of a queue
+--     tailIn w k q hs             the queue, of those with the heads hs from number q on, whose last descriptor begins at word k
 --     judgeAppend, judgeLast      an append, and which queue it is to
 --     judgeWord k v s             a word of descriptor memory
 --     judgeClass n v s            a register of class n
 --     judge a v s                 any address, from 3 on
 -- Assumes nothing: these are definitions.
-use Prim.Native.Nat.{ℕ, zero, suc, _+_, _*_, _-_, _/_, _%_}
+use Prim.Native.Nat.{ℕ, zero, suc, _+_, _-_, _/_, _%_}
 use mathlib.Core.Bool.{Bool, true, false, not}
-use mathlib.Core.List.{List}
-use lib.ListN.{getD, set}
+use mathlib.Core.List.{List, [], _∷_}
 use lib.Dec.{eqb, ltb}
 use Rattle.layout.specs.Choice.{pick, both}
-use Rattle.layout.specs.Layout.{descFirst, descWords, goodPtr, wordOf, addr, inDescriptors}
+use Rattle.layout.specs.Layout.{descFirst, descWords, goodPtr, wordOf, addr, inDescriptors, queues, sideOf, channelOf}
 use Rattle.layout.specs.Class.{classAt, hdpClass}
 use Rattle.layout.specs.declared.Side.{Side}
-use Rattle.layout.specs.declared.Side.the-variants.{Transmit, Receive}
 use Rattle.words.specs.Word.{word, put}
 use Rattle.words.specs.WordSet.{has}
-use Rattle.registers.specs.Pending.{queues, sideOf, queueOf, awaiting, setHdp}
-use Rattle.registers.specs.Rules.{headFault, registerFault, headWritten, written}
+use Rattle.registers.specs.Table.{headOf, awaiting, setHead, setHdp, headsOf}
+use Rattle.registers.specs.Rules.{headNumber, registerFault, headWritten, written}
 use Rattle.chain.specs.Chain.{JOut, placeOf, chainOf}
 use Rattle.book.specs.HandOver.{takenFrom}
-use Rattle.book.specs.World.{World, setMem, setHeads, setFlags, setRegs, headOf}
+use Rattle.book.specs.World.{World, setMem, setState, setUses}
 use Rattle.guard.specs.declared.Effect.the-variants.{Plain, Started, Appended}
+use Rattle.guard.specs.declared.Tail.{Tail}
+use Rattle.guard.specs.declared.Tail.the-variants.{Of, Nobody}
 use Rattle.guard.specs.Answers.{Outcome, accept, refuse}
 
 -- "then the chain, 12 to 17": 13 is asked of the words in use too
@@ -35,34 +36,31 @@ judgeChain side p s = chainOf (s .kinds) (word (s .mem)) (placeOf side) (s .used
 -- "a start sets HDP and the book's head, words and lengths"
 abbrev pub started : ℕ → ℕ → World → World
 started q p s =
-    setRegs (setHdp q p (s .regs))
-    (setHeads (set (s .book .heads) q p) (takenFrom (word (s .mem)) (sideOf q) (s .used, s .lens) p) s)
+    setState (setHdp q p (setHead q p (s .state)))
+    (setUses (takenFrom (word (s .mem)) (sideOf q) (s .used, s .lens) p) s)
 
 abbrev pub judgeStart : ℕ → ℕ → World → Outcome
 judgeStart q p s =
     let j = judgeChain (sideOf q) p s in
-    pick (eqb (j .0) 0) (accept (Started (sideOf q)) (started q p s)) (refuse (j .0) s)
+    pick (eqb (j .0) 0) (accept (Started (sideOf q) (channelOf q)) (started q p s)) (refuse (j .0) s)
 
 -- "HDP. Awaiting initialisation ..: 0 is accepted, stored and marks it, else 6. Otherwise 7; 8 for that side; 9 for value 0;
 -- 10 if that HDP reads nonzero or the book's queue there is not empty; then the chain, 12 to 17."
 unfoldable pub judgeHead : ℕ → ℕ → World → Outcome
 judgeHead q v s =
-    let f = s .book .flags in
-    let n = headFault f (s .regs) q v in
-    let x = headWritten f (s .regs) q v in
+    let n = headNumber (s .state) q v in
     let chained = judgeStart q v s in
     pick (eqb n 0)
-    (pick (awaiting f)
-    (accept Plain (setRegs (x .regs) (setFlags (x .flags) s)))
-    (pick (eqb (headOf s q) 0) chained (refuse 10 s)))
+    (pick (awaiting (s .state))
+    (accept Plain (setState (headWritten (s .state) q v) s))
+    (pick (eqb (headOf (s .state) q) 0) chained (refuse 10 s)))
     (refuse n s)
 
 -- CP, teardown, reset, the two registers that take 0 only, those that pass, those not offered (5) or not guarded (4)
 unfoldable pub judgeRegister : ℕ → ℕ → World → Outcome
 judgeRegister n v s =
-    let k = registerFault (s .book .flags) (s .regs) n v in
-    let x = written (s .book .flags) (s .regs) n v in
-    pick (eqb k 0) (accept Plain (setRegs (x .regs) (setFlags (x .flags) s))) (refuse k s)
+    let k = registerFault (s .state) n v in
+    pick (eqb k 0) (accept Plain (setState (written (s .state) n v) s)) (refuse k s)
 
 -- the last descriptor from p on: the first whose next names no further one
 abbrev pub lastFrom : (ℕ → ℕ) → ℕ → ℕ → ℕ
@@ -77,23 +75,27 @@ lastOf w p = lastFrom w descWords p
 unfoldable pub isLast : (ℕ → ℕ) → ℕ → ℕ → Bool
 isLast w head k = pick (goodPtr head) (eqb (lastOf w head) (addr k)) false
 
+abbrev pub tailIn : (ℕ → ℕ) → ℕ → ℕ → List ℕ → Tail
+tailIn w k q [] = Nobody
+tailIn w k q (h ∷ hs) = let rest = tailIn w k (q + 1) hs in pick (isLast w h k) (Of q) rest
+
 -- "An append stores its word and adds words and lengths", "judged as a chain for that side"
-unfoldable pub judgeAppend : Side → ℕ → ℕ → World → Outcome
-judgeAppend side k p s =
-    let j = judgeChain side p s in
+unfoldable pub judgeAppend : ℕ → ℕ → ℕ → World → Outcome
+judgeAppend q k p s =
+    let j = judgeChain (sideOf q) p s in
     pick (eqb (j .0) 0)
-    (accept (Appended side)
-    (setMem (put (s .mem) k p) (setHeads (s .book .heads) (takenFrom (word (s .mem)) side (s .used, s .lens) p) s)))
+    (accept (Appended (sideOf q) (channelOf q))
+    (setMem (put (s .mem) k p) (setUses (takenFrom (word (s .mem)) (sideOf q) (s .used, s .lens) p) s)))
     (refuse (j .0) s)
+
+-- an append to the queue that the tail is of
+abbrev pub atTail : Tail → (ℕ → Outcome) → Outcome → Outcome
+atTail Nobody f o = o
+atTail (Of q) f o = f q
 
 -- "Word 0 of a queue's last descriptor, now 0, written nonzero: an append, judged as a chain for that side"; else 11
 unfoldable pub judgeLast : ℕ → ℕ → World → Outcome
-judgeLast k v s =
-    let w = word (s .mem) in
-    let transmit = judgeAppend Transmit k v s in
-    let receive = judgeAppend Receive k v s in
-    pick (isLast w (headOf s (queueOf Transmit)) k) transmit
-    (pick (isLast w (headOf s (queueOf Receive)) k) receive (refuse 11 s))
+judgeLast k v s = atTail (tailIn (word (s .mem)) k 0 (headsOf (s .state))) (λ q. judgeAppend q k v s) (refuse 11 s)
 
 -- "A descriptor word not in use: stored. .. Any other word in use: 11."
 unfoldable pub judgeWord : ℕ → ℕ → World → Outcome

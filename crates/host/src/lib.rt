@@ -4,11 +4,11 @@
 
 use controller::Arrived;
 use controller::Controller;
-use controller::Engine;
 use controller::Stepped;
 use controller::step_by;
 use controller::take_frame_by;
 use phases::Burst;
+use phases::Engine;
 ghost use mathlib.Core.Path.{_≡_};
 ghost use Rattle.controller.specs.Controller.{outcome, stepOf, arrival, frameOf};
 ghost use Rattle.host.specs.Host.{toldOf, turnOf};

@@ -1,48 +1,48 @@
 -- Guard and controller over one memory, one operation at a time.
---     Machine                 controller, descriptor memory, kinds, and the book with its words in use and lengths
---     worldOf s               what the guard sees of it
+--     Machine                 controller, descriptor memory, kinds, the guard's small state, words in use and lengths
+--     worldOf s               what the guard sees of it: the registers in its small state are read from the controller first
 --     Op, apply o s           one operation, whole; what it answered, did and left
 --     freshMachine kinds      "A fresh machine has zero descriptor memory and registers, empty queues, idle engines"
 --     runOps os s             operations one after another
 -- Assumes nothing: these are definitions.
 use Prim.Native.Nat.{ℕ}
-use mathlib.Core.Bool.{Bool, true, false}
 use mathlib.Core.List.{List, [], _∷_}
 use lib.ListN.{replicate}
 use lib.Dec.{eqb}
 use Rattle.layout.specs.Choice.{pick}
 use Rattle.layout.specs.Layout.{descBytes, descWords}
 use Rattle.words.specs.WordSet.{emptySet}
-use Rattle.book.specs.declared.Book.{Book}
+use Rattle.registers.specs.Table.{stateWords, loaded}
 use Rattle.book.specs.World.{World}
 use Rattle.guard.specs.declared.Answer.{Answer}
-use Rattle.guard.specs.declared.Answer.the-variants.{Accepted, Refused}
+use Rattle.guard.specs.declared.Answer.the-variants.{Refused}
 use Rattle.guard.specs.declared.Effect.the-variants.{Plain}
-use Rattle.guard.specs.Answers.{Outcome, numberOf}
-use Rattle.guard.specs.Guard.{guestWrite, kindChange}
+use Rattle.guard.specs.Answers.{Outcome, numberOf, answerTo}
+use Rattle.guard.specs.Guard.{guestWrite}
+use Rattle.kinds.specs.Kinds.{kindChange}
 use Rattle.phases.specs.declared.Burst.{Burst}
 use Rattle.phases.specs.declared.Burst.the-variants.{Quiet}
-use Rattle.controller.specs.declared.Engine.{Engine}
+use Rattle.phases.specs.declared.Engine.{Engine}
 use Rattle.controller.specs.declared.Controller.{Controller}
-use Rattle.controller.specs.Controller.{Moved, stepOf, Framed, frameOf, unguardedWrite, freshController}
+use Rattle.controller.specs.Controller.{Moved, stepOf, frameOf, unguardedWrite, freshController}
 
 pub record Machine : Type 0 where
   pub ctl : Controller
   pub mem : List ℕ
   pub kinds : List ℕ
-  pub book : Book
+  pub state : List ℕ
   pub used : List ℕ
   pub lens : List ℕ
 
 abbrev pub worldOf : Machine → World
-worldOf s = record { mem = s .mem; kinds = s .kinds; book = s .book; used = s .used; lens = s .lens; regs = s .ctl .regs }
+worldOf s = record { mem = s .mem; kinds = s .kinds; state = loaded (s .ctl .state) (s .state); used = s .used; lens = s .lens }
 
--- the machine with the guard's world, but for the registers: those are the controller's own
+-- the machine with the guard's world; its registers are read anew before the next call
 abbrev pub withWorld : World → Machine → Machine
-withWorld t s = record { ctl = s .ctl; mem = t .mem; kinds = t .kinds; book = t .book; used = t .used; lens = t .lens }
+withWorld t s = record { ctl = s .ctl; mem = t .mem; kinds = t .kinds; state = t .state; used = t .used; lens = t .lens }
 
 abbrev pub withCtl : Controller → List ℕ → Machine → Machine
-withCtl c m s = record { ctl = c; mem = m; kinds = s .kinds; book = s .book; used = s .used; lens = s .lens }
+withCtl c m s = record { ctl = c; mem = m; kinds = s .kinds; state = s .state; used = s .used; lens = s .lens }
 
 -- the machine after an operation, its answer, and the burst made
 pub record Happened : Type 0 where
@@ -65,7 +65,7 @@ carriedOut a v o s =
 
 -- a number as an answer
 abbrev pub answerOf : ℕ → Answer
-answerOf n = pick (eqb n 0) (Accepted Plain) (Refused n)
+answerOf n = answerTo Plain n
 
 pub data Op : Type 0 where
   write : ℕ → ℕ → Op
@@ -106,7 +106,7 @@ freshMachine kinds = record {
   ctl = freshController;
   mem = replicate descBytes 0;
   kinds = kinds;
-  book = record { heads = 0 ∷ 0 ∷ []; flags = freshController .flags };
+  state = replicate stateWords 0;
   used = emptySet;
   lens = replicate descWords 0;
 }

@@ -18,7 +18,7 @@ use Rattle.layout.specs.declared.Side.the-variants.{Receive}
 use Rattle.words.specs.Word.{word}
 use Rattle.descriptor.specs.Fields.{lengthOf}
 use Rattle.descriptor.specs.Rules.{fetchFault}
-use Rattle.descriptor.specs.Marks.{firstMark, marked, lastMarked}
+use Rattle.marks.specs.Marks.{firstMark, marked, lastMarked}
 use Rattle.descriptor.specs.declared.Place.the-variants.{Buffer}
 use Rattle.phases.specs.declared.Burst.{Burst}
 use Rattle.phases.specs.declared.Burst.the-variants.{Quiet, Store}

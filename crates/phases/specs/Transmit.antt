@@ -17,7 +17,7 @@ use Rattle.layout.specs.declared.Side.the-variants.{Transmit}
 use Rattle.words.specs.Word.{word}
 use Rattle.descriptor.specs.Fields.{eop, lengthOf, firstByte, packetLength}
 use Rattle.descriptor.specs.Rules.{sopAt, sumAt, fetchFault}
-use Rattle.descriptor.specs.Marks.{eoqMark, ownerMark, marked}
+use Rattle.marks.specs.Marks.{eoqMark, ownerMark, marked}
 use Rattle.descriptor.specs.declared.Place.{Place}
 use Rattle.descriptor.specs.declared.Place.the-variants.{Start, Middle}
 use Rattle.phases.specs.declared.Burst.{Burst}

@@ -16,6 +16,15 @@ pub enum Burst {
     Store(u32, u32),
 }
 
+// Who takes a step: the reset, or an engine or its teardown on a channel.
+pub enum Engine {
+    Reset,
+    Transmit(u8),
+    Receive(u8),
+    TearTransmit(u8),
+    TearReceive(u8),
+}
+
 // Transmit step 1 inside a packet: the SOP descriptor's address and word 3, and the lengths so far.
 pub struct Packet {
     pub sop: u32,

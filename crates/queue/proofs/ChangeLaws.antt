@@ -14,7 +14,7 @@ use native.Mathlib.Omega.{arith}
 use lib.ListN.{length, getD, set}
 use Rattle.words.specs.Word.{word, put}
 use Rattle.words.specs.WordSet.{has}
-use Rattle.registers.specs.Pending.{sideOf}
+use Rattle.layout.specs.Layout.{sideOf}
 use Rattle.chain.specs.Chain.{placeOf, chainOf}
 use Rattle.book.specs.declared.Mode.{Mode}
 use Rattle.book.specs.HandOver.{Uses, takenFrom}
@@ -30,16 +30,13 @@ use Rattle.queue.proofs.FreshLaws.{side-place}
 use Rattle.queue.proofs.JudgedLaws.{Judged, Taken, judged-list, judged-taken}
 use Rattle.queue.proofs.SoundLaws.{Queues}
 use Rattle.queue.proofs.LastLaws.{last-yes}
+use Rattle.queue.proofs.SetLaws.{length-kept, length-starts}
 use Rattle.queue.proofs.GrowLaws.{starts-set, starts-grow, linked-at, linked-put, sole-grow, recorded-grow, store-free, Appended, appended}
 
 abbrev pub Booked : (ℕ → ℕ) → List ℕ → Uses → Type 0
 Booked w hs u = Queues w hs (u .0) (u .1)
 
 -- ---- the release
-
-length-kept : (w : ℕ → ℕ) (n : Mode) (qs : List (List ℕ)) → length (starts (keptAll w n qs)) ≡ length (starts qs)
-length-kept w n [] = refl
-length-kept w n (q ∷ qs) = ap suc (length-kept w n qs)
 
 pub released-booked : (w : ℕ → ℕ) (n : Mode) (hs : List ℕ) (u : Uses) → Booked w hs u
     → Booked w (releasedAll w n hs u .0) (releasedAll w n hs u .1) × (length (releasedAll w n hs u .0) ≡ length hs)
@@ -53,7 +50,7 @@ released-booked w n hs u b =
         sole = released-sole w n qs u (b .sole);
         recorded = released-recorded w n qs u (b .sole) (b .recorded);
       },
-      length-kept w n qs,
+      length-starts (keptAll w n qs) ∙ length-kept w n qs ∙ sym (length-starts qs),
     )
 
 -- ---- a store

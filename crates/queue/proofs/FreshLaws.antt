@@ -2,13 +2,12 @@
 --     own-ends                 EOQ and TD are clear wherever it stands
 --     LengthFits, length-fits  there is a byte, and the last is an address
 --     behind-buffer            a receive chain stays one
---     side-place, ends-place, place-ends   a chain may end only where one may begin
+--     side-place, ends-place   a chain may end only where one may begin
 --     fetch-good               the fetch of a fresh queue's first descriptor is not undefined
---     fresh-same3, fresh-same  words that agree keep it fresh
+--     fresh-same3              words that agree keep it fresh
 --     fresh-join               fresh descriptors behind a fresh queue
 --     fresh-live               the head of a fresh queue is live
 --     fresh-fits               the lengths that are recorded for it fit
---     buffers-fresh, fresh-buffers, fresh-rest   a receive queue: each by itself; so every rest is fresh
 use Prim.Native.Nat.{ℕ, _+_, _≤_}
 use mathlib.Core.Path.{_≡_, refl}
 use mathlib.Core.Bool.{false}
@@ -23,10 +22,9 @@ use Rattle.descriptor.specs.declared.Place.{Place}
 use Rattle.descriptor.specs.declared.Place.the-variants.{Start, Middle, Buffer}
 use Rattle.chain.specs.Chain.{placeOf}
 use Rattle.descriptor.proofs.RuleLaws.{flagsFault-start, flagsFault-middle, flagsFault-buffer, lengthFault-length, lengthFault-end, sideAt-behind, nextFault-more, ownFault-parts, fetchFault-pass}
-use Rattle.queue.specs.Queue.{start, All, ownAt, behindAt, Fresh}
-use Rattle.queue.proofs.LinkLaws.{all-right}
+use Rattle.queue.specs.Queue.{start, All, behindAt, Fresh}
 use Rattle.queue.proofs.KeptLaws.{Live}
-use Rattle.queue.proofs.StoreLaws.{Same, Same3, sames-three}
+use Rattle.queue.proofs.StoreLaws.{Same3}
 use Rattle.queue.proofs.RecordLaws.{RecordFits}
 
 -- ---- the rules read back
@@ -59,10 +57,6 @@ ends-place Start e = refl
 ends-place (Middle s n) e = absurd (omega arith)
 ends-place Buffer e = refl
 
-pub place-ends : (side : Side) → endsAt (placeOf side) ≡ 0
-place-ends Transmit = refl
-place-ends Receive = refl
-
 -- ---- the fetch
 
 pub fetch-good : (w : ℕ → ℕ) (pl : Place) (d : ℕ) (ds : List ℕ) → Fresh w pl (d ∷ ds) → w d ≡ start ds
@@ -79,9 +73,6 @@ fetch-good w pl d ds f n = fetchFault-pass pl (w d) (w (d + 1)) (w (d + 2)) (w (
 pub fresh-same3 : (w v : ℕ → ℕ) (pl : Place) (ds : List ℕ) → All (Same3 w v) ds → Fresh w pl ds → Fresh v pl ds
 fresh-same3 w v pl [] a f = f
 fresh-same3 w v pl (d ∷ ds) a f = rw (a .0 .0, a .0 .1, a .0 .2) (f .0, fresh-same3 w v (behindAt w pl d) ds (a .1) (f .1))
-
-pub fresh-same : (w v : ℕ → ℕ) (pl : Place) (ds : List ℕ) → All (Same w v) ds → Fresh w pl ds → Fresh v pl ds
-fresh-same w v pl ds a f = fresh-same3 w v pl ds (sames-three w v ds a) f
 
 pub fresh-join : (w : ℕ → ℕ) (pl : Place) (ds es : List ℕ) → Fresh w pl ds → Fresh w (placeOf (sideAt pl)) es → Fresh w pl (ds ++ es)
 fresh-join w pl [] es f g = rw (ends-place pl f) g
@@ -115,16 +106,3 @@ fresh-fits w pl (d ∷ ds) f = (
   record-fits (sideAt pl) (w (d + 1)) (w (d + 2)) (w (d + 3)) (ownFault-parts pl _ _ _ (f .0) .1),
   rw (sideAt-behind pl (w (d + 2)) (w (d + 3))) at (fresh-fits w (behindAt w pl d) ds (f .1)),
 )
-
--- ---- a receive queue: each by itself
-
-pub fresh-buffers : (w : ℕ → ℕ) (ds : List ℕ) → Fresh w Buffer ds → All (λ d. ownAt w Buffer d ≡ 0) ds
-fresh-buffers w [] f = tt
-fresh-buffers w (d ∷ ds) f = (f .0, fresh-buffers w ds (rw (behind-buffer (w (d + 2)) (w (d + 3))) at (f .1)))
-
-pub buffers-fresh : (w : ℕ → ℕ) (ds : List ℕ) → All (λ d. ownAt w Buffer d ≡ 0) ds → Fresh w Buffer ds
-buffers-fresh w [] a = refl
-buffers-fresh w (d ∷ ds) a = (a .0, rw (behind-buffer (w (d + 2)) (w (d + 3))) (buffers-fresh w ds (a .1)))
-
-pub fresh-rest : (w : ℕ → ℕ) (xs ys : List ℕ) → Fresh w Buffer (xs ++ ys) → Fresh w Buffer ys
-fresh-rest w xs ys f = buffers-fresh w ys (all-right (λ d. ownAt w Buffer d ≡ 0) xs ys (fresh-buffers w (xs ++ ys) f))

@@ -17,7 +17,7 @@ use Rattle.layout.specs.declared.Side.the-variants.{Transmit, Receive}
 use Rattle.words.specs.Word.{word, put}
 use Rattle.words.specs.WordSet.{has}
 use Rattle.words.proofs.WordLaws.{word-put-same, word-put-other}
-use Rattle.registers.specs.Pending.{sideOf}
+use Rattle.layout.specs.Layout.{sideOf}
 use Rattle.queue.specs.Queue.{start, All, Linked, LinkedAll, Off, Apart, Outside, Sole, Recorded, flat, starts, receiving}
 use Rattle.queue.proofs.LinkLaws.{all-left, all-right, all-join, all-map, start-append, linked-right, linked-same, linked-join}
 use Rattle.queue.proofs.SoleLaws.{count-append, flat-append, sole-perm, sole-outside, apart-perm, off-outside}

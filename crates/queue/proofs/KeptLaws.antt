@@ -2,14 +2,12 @@
 --     Flags, NoEop, Live       word 3 agrees; no packet ends here; OWNER set and TD clear at the head
 --     gone-kept                what went and what is left are the queue
 --     kept-linked, kept-linked-all   what is left is linked
---     kept-agree, gone-agree   the same flags, the same release
+--     kept-agree               the same flags, the same release
 --     kept-kept, kept-again    absorption: new words that left the flags of what went; the release again changes nothing
 --     gone-again               nothing more goes
 --     kept-live                OWNER set and TD clear at the head: nothing goes
 --     kept-torn, kept-whole    TD at the head, or the mode that drops all: all goes
---     gone-whole               and that is the whole queue
 --     kept-packet, kept-done   a finished packet goes, and the rest with it where its last has EOQ
---     kept-still               a queue that the release leaves as it is: empty, or its head is live
 use Prim.Native.Nat.{ℕ, suc, _+_}
 use mathlib.Core.Path.{_≡_, refl, ap, _∙_, sym}
 use mathlib.Core.Bool.{Bool, true, false}
@@ -23,7 +21,7 @@ use Rattle.book.specs.declared.Mode.the-variants.{Head, Packet, All as Whole}
 use Rattle.book.specs.declared.Plan.{Plan}
 use Rattle.book.specs.declared.Plan.the-variants.{Keep, Drop}
 use Rattle.book.specs.Release.{through, plan}
-use Rattle.queue.specs.Queue.{All, Linked, carry, kept, gone, keptAll, goneAll, flat, LinkedAll}
+use Rattle.queue.specs.Queue.{All, Linked, carry, kept, gone, keptAll, goneAll, LinkedAll}
 use Rattle.queue.proofs.LinkLaws.{all-every, linked-right}
 
 -- the two agree on word 3 of d
@@ -63,14 +61,6 @@ kept-agree w v n (d ∷ ds) a = rw (a .0) (at (plan n (w (d + 3))) (λ k. kept-a
     at Keep h = refl
     at (Drop k) h = h k
 
-pub gone-agree : (w v : ℕ → ℕ) (n : Mode) (ds : List ℕ) → All (Flags w v) ds → gone v n ds ≡ gone w n ds
-gone-agree w v n [] a = refl
-gone-agree w v n (d ∷ ds) a = rw (a .0) (at (plan n (w (d + 3))) (λ k. gone-agree w v k ds (a .1)))
-  where
-    at : (p : Plan) → ((k : Mode) → gone v k ds ≡ gone w k ds) → carry p [] (λ k. d ∷ gone v k ds) ≡ carry p [] (λ k. d ∷ gone w k ds)
-    at Keep h = refl
-    at (Drop k) h = ap (λ (l : List ℕ). d ∷ l) (h k)
-
 -- ---- where it stops, and where all goes
 
 pub kept-live : (w : ℕ → ℕ) (ds : List ℕ) → Live w ds → kept w Head ds ≡ ds
@@ -82,15 +72,6 @@ pub kept-whole : (w : ℕ → ℕ) (ds : List ℕ) → kept w Whole ds ≡ []
 unfolding plan
 kept-whole w [] = refl
 kept-whole w (d ∷ ds) = kept-whole w ds
-
-pub gone-whole : (w : ℕ → ℕ) (ds : List ℕ) → gone w Whole ds ≡ ds
-unfolding plan
-gone-whole w [] = refl
-gone-whole w (d ∷ ds) = ap (λ (l : List ℕ). d ∷ l) (gone-whole w ds)
-
-pub kept-all-whole : (w : ℕ → ℕ) (qs : List (List ℕ)) → flat (keptAll w Whole qs) ≡ []
-kept-all-whole w [] = refl
-kept-all-whole w (q ∷ qs) = rw (kept-whole w q) (kept-all-whole w qs)
 
 -- TD at the head
 pub kept-torn : (w : ℕ → ℕ) (d : ℕ) (ds : List ℕ) → td (w (d + 3)) ≡ true → kept w Head (d ∷ ds) ≡ []
@@ -144,26 +125,6 @@ gone-all-again w n (q ∷ qs) = rw (gone-again w n q, gone-all-again w n qs) ref
 pub kept-all-again : (w : ℕ → ℕ) (n : Mode) (qs : List (List ℕ)) → keptAll w Head (keptAll w n qs) ≡ keptAll w n qs
 kept-all-again w n [] = refl
 kept-all-again w n (q ∷ qs) = rw (kept-again w n q, kept-all-again w n qs) refl
-
--- what the release leaves as it is has a live head
-pub kept-still : (w : ℕ → ℕ) (ds : List ℕ) → kept w Head ds ≡ ds → Live w ds
-unfolding plan
-kept-still w [] e = tt
-kept-still w (d ∷ ds) e = at (td (w (d + 3))) (owner (w (d + 3))) refl refl (plan Head (w (d + 3))) refl e (λ k. gone-kept w k ds)
-  where
-    longer : (k : Mode) → gone w k ds ++ kept w k ds ≡ ds → kept w k ds ≡ d ∷ ds → ⊥
-    longer k g h =
-        let a : length (gone w k ds) + length (kept w k ds) ≡ length ds = sym (length-append (gone w k ds) (kept w k ds)) ∙ ap length g in
-        let b : length (kept w k ds) ≡ suc (length ds) = ap length h in
-        omega arith
-
-    at : (t o : Bool) → td (w (d + 3)) ≡ t → owner (w (d + 3)) ≡ o → (p : Plan) → plan Head (w (d + 3)) ≡ p
-        → carry p (d ∷ ds) (λ k. kept w k ds) ≡ d ∷ ds → ((k : Mode) → gone w k ds ++ kept w k ds ≡ ds)
-        → (owner (w (d + 3)) ≡ true) × (td (w (d + 3)) ≡ false)
-    at t o x y (Drop k) q h g = absurd (longer k (g k) h)
-    at true o x y Keep q h g = let z : Drop Whole ≡ Keep = rw x at q in let z : _≡_ {A = ℕ} 0 1 = cc in absurd (omega arith)
-    at false true x y Keep q h g = (y, x)
-    at false false x y Keep q h g = absurd (through-goes (w (d + 3)) (rw (x, y) at q))
 
 -- ---- a finished packet: no EOP before d, EOP at d
 

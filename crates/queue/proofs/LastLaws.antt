@@ -1,22 +1,24 @@
 -- The last descriptor of a queue, as it is computed for an append. Assumes nothing.
 --     sole-length              a queue has no more descriptors than there are words in use
 --     last-from                the walk along word 0 comes to the last descriptor
---     last-yes, last-is        word k is word 0 of the last descriptor exactly where the queue ends in k
-use Prim.Native.Nat.{ℕ, zero, suc, _+_, _≤_}
+--     last-yes                 where word k is word 0 of the last descriptor, the queue ends in k
+--     tail-yes                 the queue that is found for an append is one of those asked, and ends there
+use Prim.Native.Nat.{ℕ, zero, suc, _+_, _≤_, _<_}
 use mathlib.Core.Path.{_≡_, refl, ap, _∙_, sym, subst}
-use mathlib.Core.Bool.{true, false}
+use mathlib.Core.Bool.{Bool, true, false}
 use mathlib.Core.List.{List, [], _∷_, _++_}
 use native.Mathlib.Omega.{arith}
-use lib.ListN.{length, length-append}
+use lib.ListN.{length, getD, length-append}
 use lib.Dec.{eqb}
-use borrow.Author.Tests.{eq-eqb, eqb-true}
+use borrow.Author.Tests.{eqb-true}
 use Rattle.layout.specs.Choice.{pick}
 use Rattle.layout.specs.Layout.{goodPtr, addr, descWords}
 use Rattle.layout.proofs.ChoiceLaws.{clash}
 use Rattle.layout.proofs.PointerLaws.{goodPtr-addr, wordOf-addr, goodPtr-zero}
 use Rattle.words.specs.WordSet.{inUse}
 use Rattle.words.proofs.SetLaws.{inUse-falls, inUse-le, has-true}
-use Rattle.guard.specs.Judges.{lastFrom, lastOf, isLast}
+use Rattle.guard.specs.declared.Tail.the-variants.{Of}
+use Rattle.guard.specs.Judges.{lastFrom, lastOf, isLast, tailIn}
 use Rattle.queue.specs.Queue.{start, Linked, Sole}
 use Rattle.queue.proofs.SoleLaws.{sole-has, sole-drop}
 
@@ -51,19 +53,11 @@ few {u} xs d rs s =
 abbrev Test : (ℕ → ℕ) → ℕ → ℕ → ℕ → Type 0
 Test w n p k = pick (goodPtr p) (eqb (lastFrom w n p) (addr k)) false ≡ true
 
-test-is : (w : ℕ → ℕ) (n : ℕ) (xs : List ℕ) (k : ℕ) → Linked w (xs ++ k ∷ []) → length xs ≤ n → Test w n (start (xs ++ k ∷ [])) k
-test-is w n xs k l h = rw (start-good w xs k l, last-from w n xs k l h) (eq-eqb (addr k) (addr k) refl)
-
 test-yes : (w : ℕ → ℕ) (n : ℕ) (xs : List ℕ) (d k : ℕ) → Linked w (xs ++ d ∷ []) → length xs ≤ n → Test w n (start (xs ++ d ∷ [])) k → d ≡ k
 test-yes w n xs d k l h e =
     let f : eqb (addr d) (addr k) ≡ true = rw (start-good w xs d l, last-from w n xs d l h) at e in
     let g = eqb-true (addr d) (addr k) f in
     omega arith
-
-pub last-is : {u : List ℕ} (w : ℕ → ℕ) (xs : List ℕ) (k : ℕ) (rs : List ℕ) → Linked w (xs ++ k ∷ []) → Sole u ((xs ++ k ∷ []) ++ rs)
-    → isLast w (start (xs ++ k ∷ [])) k ≡ true
-unfolding isLast lastOf
-last-is w xs k rs l s = test-is w descWords xs k l (few xs k rs s)
 
 -- a list that is not empty has a last
 pub record Snoc (q : List ℕ) : Type 0 where
@@ -87,3 +81,27 @@ last-yes {u} w (d ∷ ds) rs k l s e =
     same q xs y p l s =
         subst (λ (z : List ℕ). Linked w z → Sole u (z ++ rs) → Test w descWords (start z) k → y ≡ k) (sym p)
         (λ l1 s1 e1. test-yes w descWords xs y k l1 (few xs y rs s1) e1) l s
+
+-- ---- which queue it is
+
+-- queue q ends in k, of those with the heads hs from number n on
+record Found (w : ℕ → ℕ) (k n : ℕ) (hs : List ℕ) (q : ℕ) : Type 0 where
+  pub past : ℕ
+  pub number : q ≡ n + past
+  pub few : past < length hs
+  pub last : isLast w (getD hs past 0) k ≡ true
+
+tail-from : (w : ℕ → ℕ) (k n : ℕ) (hs : List ℕ) (q : ℕ) → tailIn w k n hs ≡ Of q → Found w k n hs q
+tail-from w k n [] q e = let z : _≡_ {A = ℕ} 0 1 = cc in absurd (omega arith)
+tail-from w k n (h ∷ hs) q e = at (isLast w h k) refl e (tail-from w k (n + 1) hs q)
+  where
+    at : (b : Bool) → isLast w h k ≡ b → pick b (Of n) (tailIn w k (n + 1) hs) ≡ Of q → (tailIn w k (n + 1) hs ≡ Of q → Found w k (n + 1) hs q)
+        → Found w k n (h ∷ hs) q
+    at true t e f = let z : q ≡ n = cc in record { past = 0; number = omega arith; few = omega arith; last = t }
+    at false t e f = let r = f e in record { past = suc (r .past); number = omega (arith, r .number); few = omega (arith, r .few); last = r .last }
+
+pub tail-yes : (w : ℕ → ℕ) (k : ℕ) (hs : List ℕ) (q : ℕ) → tailIn w k 0 hs ≡ Of q → (q < length hs) × (isLast w (getD hs q 0) k ≡ true)
+tail-yes w k hs q e =
+    let r = tail-from w k 0 hs q e in
+    let z : r .past ≡ q = omega (arith, r .number) in
+    (rw z at (r .few), rw z at (r .last))

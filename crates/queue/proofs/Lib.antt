@@ -9,7 +9,9 @@ pub mod JudgedLaws
 pub mod SoundLaws
 pub mod LastLaws
 pub mod GrowLaws
-pub mod TwoLaws
 pub mod RoomyLaws
+pub mod NumberLaws
+pub mod SetLaws
 pub mod ChangeLaws
+pub mod StateLaws
 pub mod CallLaws

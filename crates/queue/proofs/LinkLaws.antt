@@ -1,16 +1,16 @@
 -- Lists of descriptors: their parts, and their links. Assumes nothing.
---     all-left, all-right, all-join, all-swap, all-map, all-mid, all-every   P of each, in parts
+--     all-left, all-right, all-join, all-map, all-mid, all-every   P of each, in parts
 --     start-zero, start-append   an empty queue begins at 0, and only it; more behind a queue leaves its beginning
 --     linked-right, linked-small   a rest of a queue is linked; descriptors are at most 2044
 --     linked-unique             the list from a pointer is the only one
 --     linked-same               words that agree at each word 0 have the same links
---     linked-last, linked-join  the last word 0 is 0; a queue goes on where its last word 0 leads
+--     linked-join               a queue goes on where its last word 0 leads
 use Prim.Native.Nat.{ℕ, _+_, _≤_}
 use mathlib.Core.Path.{_≡_, refl, ap, ap₂, _∙_, sym}
 use mathlib.Core.List.{List, [], _∷_, _++_}
 use mathlib.Core.Logic.{_≢_}
 use native.Mathlib.Omega.{arith}
-use Rattle.queue.specs.Queue.{start, All, Linked, LinkedAll}
+use Rattle.queue.specs.Queue.{start, All, Linked}
 
 -- ---- P of each
 
@@ -25,9 +25,6 @@ all-right P (x ∷ xs) ys a = all-right P xs ys (a .1)
 pub all-join : (P : ℕ → Type 0) (xs ys : List ℕ) → All P xs → All P ys → All P (xs ++ ys)
 all-join P [] ys a b = b
 all-join P (x ∷ xs) ys a b = (a .0, all-join P xs ys (a .1) b)
-
-pub all-swap : (P : ℕ → Type 0) (xs ys : List ℕ) → All P (xs ++ ys) → All P (ys ++ xs)
-all-swap P xs ys a = all-join P ys xs (all-right P xs ys a) (all-left P xs ys a)
 
 pub all-map : (P Q : ℕ → Type 0) → ((d : ℕ) → P d → Q d) → (ds : List ℕ) → All P ds → All Q ds
 all-map P Q f [] a = tt
@@ -78,9 +75,6 @@ pub linked-same : (w v : ℕ → ℕ) (ds : List ℕ) → All (λ d. v d ≡ w d
 linked-same w v [] a l = tt
 linked-same w v (d ∷ ds) a l = (l .0, a .0 ∙ l .1, linked-same w v ds (a .1) (l .2))
 
-pub linked-last : (w : ℕ → ℕ) (xs : List ℕ) (d : ℕ) → Linked w (xs ++ d ∷ []) → w d ≡ 0
-linked-last w xs d l = linked-right w xs (d ∷ []) l .1
-
 pub linked-join : (w v : ℕ → ℕ) (xs : List ℕ) (d : ℕ) (es : List ℕ)
     → Linked w (xs ++ d ∷ []) → All (λ y. v y ≡ w y) xs → v d ≡ start es → Linked v es → Linked v (xs ++ d ∷ es)
 linked-join w v [] d es l a n e = (l .0, n, e)
@@ -88,6 +82,3 @@ linked-join w v (x ∷ xs) d es l a n e =
     (l .0, a .0 ∙ l .1 ∙ start-snoc xs d [] es, linked-join w v xs d es (l .2) (a .1) n e)
 
 -- the same of each of several queues
-pub linked-all-map : (w v : ℕ → ℕ) → ((q : List ℕ) → Linked w q → Linked v q) → (qs : List (List ℕ)) → LinkedAll w qs → LinkedAll v qs
-linked-all-map w v f [] l = tt
-linked-all-map w v f (q ∷ qs) l = (f q (l .0), linked-all-map w v f qs (l .1))

@@ -11,7 +11,7 @@
 --     recorded-empty           none is recorded for no descriptor
 --     recorded-perm, recorded-shift   the order does not matter
 --     take-words, sole-add-all the words in use with descriptors taken over free words
---     take-size, take-other, take-there   the lengths then: as recorded there, all others as they were
+--     take-other, take-there     the lengths then: as recorded there, all others as they were
 --     gain side ds rx          the receive descriptors, once ds are taken on a side
 --     RecordFits, recorded-take   the recorded lengths are right for them, where what is recorded is 1 to 2,047
 use Prim.Native.Nat.{ℕ, zero, suc, _+_, _≤_}
@@ -172,11 +172,6 @@ pub sole-add-all : (u ds cs : List ℕ) → Unmet u ds → Sole u cs → Sole (a
 sole-add-all u [] cs f s = s
 sole-add-all u (d ∷ ds) cs f s =
     sole-perm (λ k. simp count-append (omega arith)) (sole-add-all (addFour u d) ds (d ∷ cs) (f .1) (sole-add d cs (f .0) s))
-
-pub take-size : (w : ℕ → ℕ) (side : Side) (u : Uses) (ds : List ℕ) → length (takeAll w side u ds .1) ≡ length (u .1)
-take-size w side u [] = refl
-take-size w side u (d ∷ ds) =
-    take-size w side (takeOne side (w (d + 2)) u d) ds ∙ rw (take-one side (w (d + 2)) u d) (length-set (u .1) d _)
 
 pub take-other : (w : ℕ → ℕ) (side : Side) (u : Uses) (ds : List ℕ) (k : ℕ) → None k ds → getD (takeAll w side u ds .1) k 0 ≡ getD (u .1) k 0
 take-other w side u [] k n = refl

@@ -24,7 +24,7 @@ use Rattle.blocks.proofs.RoomLaws.{room-set-other, room-set-permits}
 use Rattle.descriptor.specs.Fields.{lengthOf, firstByte}
 use Rattle.descriptor.specs.Rules.{sideAt}
 use Rattle.descriptor.specs.declared.Place.{Place}
-use Rattle.guard.specs.Guard.{received, inReception}
+use Rattle.kinds.specs.Kinds.{received, inReception}
 use Rattle.queue.specs.Queue.{All, Fresh, Roomy, behindAt}
 use Rattle.queue.proofs.StoreLaws.{Same3}
 use Rattle.queue.proofs.RecordLaws.{Fits}

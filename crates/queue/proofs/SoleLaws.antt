@@ -8,7 +8,7 @@
 --     sole-has, sole-small      a descriptor's words are in use
 --     sole-add, sole-drop, sole-free   one more descriptor over free words; one less; and what is free
 --     sole-empty                the empty set is that of no descriptor
---     flat-append, sole-pull, sole-push   one queue among several, to the front and back
+--     flat-append, sole-pull   one queue among several, to the front
 --     apart-shift, apart-back, apart-left, apart-right  apart, in parts
 use Prim.Native.Nat.{ℕ, zero, suc, _+_, _≤_, _<_}
 use mathlib.Core.Path.{_≡_, refl, ap, _∙_, sym}
@@ -247,6 +247,3 @@ flat-append (x ∷ xs) ys = ap (λ (l : List ℕ). x ++ l) (flat-append xs ys) �
 
 pub sole-pull : {u : List ℕ} (xs : List (List ℕ)) (q : List ℕ) (ys : List (List ℕ)) → Sole u (flat (xs ++ q ∷ ys)) → Sole u (q ++ flat (xs ++ ys))
 sole-pull xs q ys s = sole-perm (λ k. simp (flat-append, count-append) (omega arith)) s
-
-pub sole-push : {u : List ℕ} (xs : List (List ℕ)) (q : List ℕ) (ys : List (List ℕ)) → Sole u (q ++ flat (xs ++ ys)) → Sole u (flat (xs ++ q ∷ ys))
-sole-push xs q ys s = sole-perm (λ k. simp (flat-append, count-append) (omega arith)) s

@@ -3,7 +3,7 @@
 --     Only d w v               w and v agree but for words 2 and 3 of d
 --     store-outside, stores-outside   a store outside a descriptor leaves its words
 --     frame                    a store in a descriptor leaves the words of all others
---     put-only3, put-only23    a store to word 3, or to words 2 and 3
+--     put-only3                a store to word 3
 --     marked-only, last-marked-only   the controller's marks are such stores
 --     Change, change           words 2 and 3 of one descriptor change: what stays, once for every queue
 use Prim.Native.Nat.{ℕ, _+_, _≤_, _<_}
@@ -13,7 +13,7 @@ use mathlib.Core.Logic.{inl, inr, _≢_}
 use native.Mathlib.Omega.{arith}
 use Rattle.words.specs.Word.{word, put}
 use Rattle.words.proofs.WordLaws.{word-put-other}
-use Rattle.descriptor.specs.Marks.{marked, lastMarked}
+use Rattle.marks.specs.Marks.{marked, lastMarked}
 use Rattle.book.specs.declared.Mode.{Mode}
 use Rattle.book.specs.declared.Mode.the-variants.{Head}
 use Rattle.queue.specs.Queue.{All, Linked, LinkedAll, Off, Apart, Outside, kept, gone, flat}
@@ -71,9 +71,6 @@ Only d w v = (k : ℕ) → k ≢ d + 2 → k ≢ d + 3 → v k ≡ w k
 pub put-only3 : (m : List ℕ) (d x : ℕ) → Only d (word m) (word (put m (d + 3) x))
 put-only3 m d x k a b = word-put-other m (d + 3) x k b
 
-pub put-only23 : (m : List ℕ) (d x y : ℕ) → Only d (word m) (word (put (put m (d + 2) x) (d + 3) y))
-put-only23 m d x y k a b = word-put-other (put m (d + 2) x) (d + 3) y k b ∙ word-put-other m (d + 2) x k a
-
 pub marked-only : (f : ℕ → ℕ) (d : ℕ) (m : List ℕ) → Only d (word m) (word (marked f d m))
 unfolding marked
 marked-only f d m = put-only3 m d (f (word m (d + 3)))
@@ -94,7 +91,6 @@ pub record Change (w v : ℕ → ℕ) (n : Mode) (q cs : List ℕ) (d : ℕ) (rs
   pub before : All (Same w v) cs
   pub behind : All (Same w v) rs
   pub others : All (Same w v) os
-  pub same0 : v d ≡ w d
   pub same1 : v (d + 1) ≡ w (d + 1)
   pub linked : Linked w q → Linked v q
   pub left : kept v n q ≡ kept v Head (cs ++ d ∷ rs)
@@ -119,7 +115,6 @@ change w v n q cs d rs os o e a =
       before = sc;
       behind = sr;
       others = all-right (Same w v) rs os back;
-      same0 = dn;
       same1 = o (d + 1) (omega arith) (omega arith);
       linked = λ l. linked-same w v q (rw whole at nt) l;
       left = kept-kept w v n q (same-flags w v g sg) ∙ ap (λ (y : List ℕ). kept v Head y) e;

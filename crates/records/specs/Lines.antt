@@ -1,6 +1,8 @@
 -- What happened, and the line that is printed for it. Document 01, "The bench": "It prints `W` address answer; `K` block answer;
 -- `F` length answer; for a burst `R` or `S`, address, bytes". "Addresses are 8 hex capitals, all other numbers decimal."
 --     Event             a guest write, a kind change, a frame with its answer; a burst
+--     blank, newline    as bytes
+--     digitsMax, hexDigits   the most digits of a decimal number, and the digits of an address
 --     decimal n, hex8 a the digits, as bytes
 --     lineOf e          the line, with its newline; a step without a burst prints nothing
 --     sentLine, badLine the last line
@@ -30,8 +32,11 @@ digitsFor (suc k) n =
     let more = digitsFor k (n / 10) ++ ((48 + n % 10) ∷ []) in pick (ltb n 10) ((48 + n) ∷ []) more
 
 -- a number of 64 bits has at most 20 digits
+abbrev pub digitsMax : ℕ
+digitsMax = 20
+
 unfoldable pub decimal : ℕ → List ℕ
-decimal n = digitsFor 20 n
+decimal n = digitsFor digitsMax n
 
 abbrev pub hexDigit : ℕ → ℕ
 hexDigit d = pick (ltb d 10) (48 + d) (55 + d)
@@ -41,16 +46,26 @@ abbrev pub hexFor : ℕ → ℕ → List ℕ
 hexFor zero a = []
 hexFor (suc k) a = hexFor k (a / 16) ++ (hexDigit (a % 16) ∷ [])
 
+-- "Addresses are 8 hex capitals"
+abbrev pub hexDigits : ℕ
+hexDigits = 8
+
 unfoldable pub hex8 : ℕ → List ℕ
-hex8 a = hexFor 8 a
+hex8 a = hexFor hexDigits a
+
+abbrev pub blank : ℕ
+blank = 32
+
+abbrev pub newline : ℕ
+newline = 10
 
 -- a blank, a number, a newline
 abbrev pub tailWith : ℕ → List ℕ
-tailWith n = (32 ∷ []) ++ (decimal n ++ (10 ∷ []))
+tailWith n = (blank ∷ []) ++ (decimal n ++ (newline ∷ []))
 
 -- a letter, a blank, a first part, and the tail
 abbrev pub lineWith : ℕ → List ℕ → ℕ → List ℕ
-lineWith letter part n = (letter ∷ 32 ∷ []) ++ (part ++ tailWith n)
+lineWith letter part n = (letter ∷ blank ∷ []) ++ (part ++ tailWith n)
 
 unfoldable pub lineOf : Event → List ℕ
 lineOf (wrote a n) = lineWith 87 (hex8 a) n
@@ -69,11 +84,11 @@ unfoldable pub sentLine : ℕ → ℕ → List ℕ
 sentLine a b =
     (115 ∷ 101 ∷ 110 ∷ 116 ∷ 32 ∷ [])
     ++ (decimal a
-    ++ ((32 ∷ 114 ∷ 101 ∷ 99 ∷ 101 ∷ 105 ∷ 118 ∷ 101 ∷ 100 ∷ 32 ∷ []) ++ (decimal b ++ (10 ∷ []))))
+    ++ ((32 ∷ 114 ∷ 101 ∷ 99 ∷ 101 ∷ 105 ∷ 118 ∷ 101 ∷ 100 ∷ 32 ∷ []) ++ (decimal b ++ (newline ∷ []))))
 
 -- "prints `bad record` and its offset in place of the `sent` line"
 unfoldable pub badLine : ℕ → List ℕ
-badLine offset = (98 ∷ 97 ∷ 100 ∷ 32 ∷ 114 ∷ 101 ∷ 99 ∷ 111 ∷ 114 ∷ 100 ∷ 32 ∷ []) ++ (decimal offset ++ (10 ∷ []))
+badLine offset = (98 ∷ 97 ∷ 100 ∷ 32 ∷ 114 ∷ 101 ∷ 99 ∷ 111 ∷ 114 ∷ 100 ∷ 32 ∷ []) ++ (decimal offset ++ (newline ∷ []))
 
 -- no line has more bytes than this
 abbrev pub lineMax : ℕ

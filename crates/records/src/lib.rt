@@ -3,16 +3,17 @@
 // A line is stored in a lent buffer at a place that has room for it, byte for byte as document 01 has it, and nothing else of the buffer changes.
 // Document 01, "The bench".
 
-ghost use mathlib.Core.Path.{_≡_};
-ghost use Prim.Native.Nat.{_+_, _≤_, _<_};
-ghost use mathlib.Core.Bool.{true};
-ghost use lib.ListN.{length, getD};
-ghost use mathlib.Core.List.{_∷_, []};
-ghost use Rattle.records.specs.declared.Record.the-variants.{Write, Kind, Frame};
-ghost use Rattle.records.specs.declared.Decoded.the-variants.{Good};
-ghost use Rattle.records.specs.Records.{u16At, u32At, marked, needs, decodeRam, decodeSteps, decodeLater, decode};
-ghost use Rattle.records.specs.Lines.{wrote, changed, framed, moved, decimal, hexDigit, hex8, tailWith, lineWith, lineOf, sentLine, badLine, lineMax, Prints};
+use blocks::kinds_fit;
+use layout::CHANNELS;
 use phases::Burst;
+use phases::Engine;
+ghost use mathlib.Core.Path.{_≡_};
+ghost use mathlib.Core.Bool.{true};
+ghost use mathlib.Core.List.{_∷_, []};
+ghost use Prim.Native.Nat.{_+_, _≤_, _<_};
+ghost use lib.ListN.{length};
+ghost use Rattle.records.specs.Records.{u16At, u32At, marked, engineOf, decodeRam, decodeWrite, decodeKind, decodeFrame, decodeSteps, decodeLater, decode};
+ghost use Rattle.records.specs.Lines.{wrote, changed, framed, moved, blank, digitsMax, decimal, hexDigit, hexDigits, hex8, tailWith, lineWith, lineOf, sentLine, badLine, lineMax, Prints};
 
 // One record of a bench file. The kinds of a `Ram` record stand behind its four bytes of mark and N.
 pub enum Record {
@@ -20,7 +21,7 @@ pub enum Record {
     Write(u32, u32),
     Kind(u16, u8),
     Frame(u16),
-    Steps(u8, u8),
+    Steps(Engine, u8),
 }
 
 // What stands next in a bench file: nothing, a record with its size in bytes, or something that is no record.
@@ -43,8 +44,22 @@ const FRAME: usize = 4;
 
 const STEPS: usize = 4;
 
-// The highest number of an engine.
-const ENGINE_MAX: u8 = 4;
+// Where their second parts stand. The first stands behind the mark.
+const VALUE_AT: usize = 6;
+
+const KIND_AT: usize = 4;
+
+const COUNT_AT: usize = 3;
+
+// How many engines a channel has, with their teardowns, and the highest number of one. The reset is number 0.
+const ENGINES: u8 = 4;
+
+const ENGINE_MAX: u8 = ENGINES * CHANNELS as u8;
+
+// How many values a byte has, and how many two.
+const BYTE: u16 = 0x100;
+
+const HALF: u32 = 0x1_0000;
 
 fn wide(x: u8) -> u16
     ensures { λ r. ⌜ (r ≡ x) × (r < 256) ⌝ }
@@ -57,7 +72,7 @@ fn number16(bs: &[u8], at: usize) -> u16
     requires { ⌜ at + 2 ≤ length (now bs) ⌝ }
     ensures { λ r. ⌜ r ≡ u16At (now (bs .entry)) at ⌝ }
 {
-    wide(bs[at]) + wide(bs[at + 1]) * 256
+    wide(bs[at]) + wide(bs[at + 1]) * BYTE
 }
 
 fn wider(x: u16) -> u32
@@ -71,7 +86,7 @@ fn number32(bs: &[u8], at: usize) -> u32
     requires { ⌜ at + 4 ≤ length (now bs) ⌝ }
     ensures { λ r. ⌜ r ≡ u32At (now (bs .entry)) at ⌝ }
 {
-    wider(number16(bs, at)) + wider(number16(bs, at + 2)) * 65536
+    wider(number16(bs, at)) + wider(number16(bs, at + 2)) * HALF
 }
 
 // Whether these two letters are the mark.
@@ -97,7 +112,7 @@ fn decode_ram(bs: &[u8]) -> Decoded
     if bs.len() < size {
         return Decoded::Bad;
     }
-    if !blocks::kinds_fit(&bs[RAM_HEAD..size]) {
+    if !kinds_fit(&bs[RAM_HEAD..size]) {
         return Decoded::Bad;
     }
     let record = Record::Ram(n);
@@ -105,37 +120,59 @@ fn decode_ram(bs: &[u8]) -> Decoded
 }
 
 fn decode_write(bs: &[u8]) -> Decoded
-    ensures { λ r. ⌜ r ≡ needs 10 (now (bs .entry)) (Good (Write (u32At (now (bs .entry)) 2) (u32At (now (bs .entry)) 6)) 10) ⌝ }
+    ensures { λ r. ⌜ r ≡ decodeWrite (now (bs .entry)) ⌝ }
 {
     if bs.len() < WRITE {
         return Decoded::Bad;
     }
-    let a = number32(bs, 2);
-    let v = number32(bs, 6);
+    let a = number32(bs, MARK);
+    let v = number32(bs, VALUE_AT);
     let record = Record::Write(a, v);
     Decoded::Good(record, WRITE)
 }
 
 fn decode_kind(bs: &[u8]) -> Decoded
-    ensures { λ r. ⌜ r ≡ needs 5 (now (bs .entry)) (Good (Kind (u16At (now (bs .entry)) 2) (getD (now (bs .entry)) 4 0)) 5) ⌝ }
+    ensures { λ r. ⌜ r ≡ decodeKind (now (bs .entry)) ⌝ }
 {
     if bs.len() < KIND {
         return Decoded::Bad;
     }
-    let b = number16(bs, 2);
-    let record = Record::Kind(b, bs[4]);
+    let b = number16(bs, MARK);
+    let kind = bs[KIND_AT];
+    let record = Record::Kind(b, kind);
     Decoded::Good(record, KIND)
 }
 
 fn decode_frame(bs: &[u8]) -> Decoded
-    ensures { λ r. ⌜ r ≡ needs 4 (now (bs .entry)) (Good (Frame (u16At (now (bs .entry)) 2)) 4) ⌝ }
+    ensures { λ r. ⌜ r ≡ decodeFrame (now (bs .entry)) ⌝ }
 {
     if bs.len() < FRAME {
         return Decoded::Bad;
     }
-    let n = number16(bs, 2);
+    let n = number16(bs, MARK);
     let record = Record::Frame(n);
     Decoded::Good(record, FRAME)
+}
+
+// The engine of a number: the reset, then for each channel the two engines and their teardowns.
+fn engine_of(e: u8) -> Engine
+    ensures { λ r. ⌜ r ≡ engineOf e ⌝ }
+{
+    if e == 0 {
+        return Engine::Reset;
+    }
+    let channel = (e - 1) / ENGINES;
+    let which = (e - 1) % ENGINES;
+    if which == 0 {
+        return Engine::Transmit(channel);
+    }
+    if which == 1 {
+        return Engine::Receive(channel);
+    }
+    if which == 2 {
+        return Engine::TearTransmit(channel);
+    }
+    Engine::TearReceive(channel)
 }
 
 fn decode_steps(bs: &[u8]) -> Decoded
@@ -144,14 +181,15 @@ fn decode_steps(bs: &[u8]) -> Decoded
     if bs.len() < STEPS {
         return Decoded::Bad;
     }
-    let engine = bs[2];
-    let count = bs[3];
-    if ENGINE_MAX < engine {
+    let e = bs[MARK];
+    let count = bs[COUNT_AT];
+    if ENGINE_MAX < e {
         return Decoded::Bad;
     }
     if count < 1 {
         return Decoded::Bad;
     }
+    let engine = engine_of(e);
     let record = Record::Steps(engine, count);
     Decoded::Good(record, STEPS)
 }
@@ -207,6 +245,8 @@ pub fn decode_record(bs: &[u8], first: bool) -> Decoded
 // Room enough for any line: what a caller has to leave behind the place where it puts one.
 pub const LINE_MAX: usize = 64;
 
+const HEX_DIGITS: usize = 8;
+
 const BLANK: u8 = b' ';
 
 const NEWLINE: u8 = b'\n';
@@ -246,7 +286,7 @@ fn count_digits(n: u64) -> usize
 
 // The digits come from the last to the first, so they are counted before.
 fn put_decimal(out: &mut [u8], at: usize, n: u64) -> usize
-    requires { ⌜ at + 20 ≤ length (now out) ⌝ }
+    requires { ⌜ at + digitsMax ≤ length (now out) ⌝ }
     ensures { λ r. ⌜ Prints (now (out .entry)) at (decimal n) (now (out .exit)) r ⌝ }
 {
     let end = at + count_digits(n);
@@ -272,29 +312,29 @@ fn hex_digit(d: u32) -> u8
 }
 
 fn put_hex8(out: &mut [u8], at: usize, a: u32) -> usize
-    requires { ⌜ at + 8 ≤ length (now out) ⌝ }
+    requires { ⌜ at + hexDigits ≤ length (now out) ⌝ }
     ensures { λ r. ⌜ Prints (now (out .entry)) at (hex8 a) (now (out .exit)) r ⌝ }
 {
-    let mut k: usize = 8;
+    let mut k = HEX_DIGITS;
     let mut m = a;
     while 0 < k {
         k -= 1;
         out[at + k] = hex_digit(m % 16);
         m = m / 16;
     }
-    at + 8
+    at + HEX_DIGITS
 }
 
 fn put_head(out: &mut [u8], at: usize, letter: u8) -> usize
     requires { ⌜ at + 2 ≤ length (now out) ⌝ }
-    ensures { λ r. ⌜ Prints (now (out .entry)) at (letter ∷ 32 ∷ []) (now (out .exit)) r ⌝ }
+    ensures { λ r. ⌜ Prints (now (out .entry)) at (letter ∷ blank ∷ []) (now (out .exit)) r ⌝ }
 {
     let blank = put_byte(out, at, letter);
     put_byte(out, blank, BLANK)
 }
 
 fn put_tail(out: &mut [u8], at: usize, n: u64) -> usize
-    requires { ⌜ at + 22 ≤ length (now out) ⌝ }
+    requires { ⌜ at + (digitsMax + 2) ≤ length (now out) ⌝ }
     ensures { λ r. ⌜ Prints (now (out .entry)) at (tailWith n) (now (out .exit)) r ⌝ }
 {
     let number = put_byte(out, at, BLANK);

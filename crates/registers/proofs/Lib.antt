@@ -1,1 +1,3 @@
+pub mod TableLaws
+pub mod LoadLaws
 pub mod RegisterLaws

@@ -1,282 +1,284 @@
--- What a register's class and the flags decide. Assumes nothing.
---     sideOf-zero, sideOf-one       queue 0 transmits, queue 1 receives
---     every-four, some-two          the tests of all four marks and of both teardowns, one by one
+-- What a register's class and the numbers of its queue decide. Assumes nothing.
 --     byClass-head .. -unguarded    the choice by class number at each range of numbers; -low and -mid are the gaps between ranges
 --     byClass-rest                  past the reset nothing but what the four last choices share
---     awaiting-marks, marks-awaiting   nothing is awaited exactly when every mark is set
---     anyTorn-none, none-anyTorn    no teardown is pending exactly when none is for a queue
---     fault-hdp .. fault-offset     the fault of a write at each class number that is judged
---     written-hdp .. written-rest   flags and registers after such a write
+--     fault-hdp .. fault-offset     the number of a write at each class number that is judged
+--     written-hdp .. written-rest   the table after such a write
+--     headWritten-zero, headWritten-set, ackWritten-zero, -same, -other   the cases of a write to HDP and to CP
+--     tearQueue-named, tearQueue-lt the queue that a teardown names
 --     headFault-zero, ackFault-zero, headFault-none, teardownFault-none, resetFault-none, zeroFault-none   what no fault tells
-use Prim.Native.Nat.{ℕ, zero, suc, _+_, _-_, _≤_, _<_}
+use Prim.Native.Nat.{ℕ, _+_, _*_, _-_, _≤_, _<_}
 use mathlib.Core.Path.{_≡_, refl, ap, _∙_}
 use mathlib.Core.Logic.{_≢_}
-use mathlib.Core.Bool.{Bool, true, false, not}
-use mathlib.Core.List.{List, [], _∷_}
-use native.Mathlib.Nat.{sub-zero, zero-add, add-sub-cancel-left}
+use mathlib.Core.Bool.{Bool, true, false}
+use mathlib.Core.List.{List}
+use native.Mathlib.Nat.{add-sub-cancel-left}
 use native.Mathlib.Omega.{arith}
 use lib.Dec.{eqb, ltb, leb}
-use lib.ListN.{length, getD}
-use borrow.Author.Tests.{eq-eqb, ne-eqb, lt-ltb, le-ltb, le-leb, lt-leb, not-false, eqb-true, eqb-false}
+use borrow.Author.Tests.{eq-eqb, ne-eqb, lt-ltb, le-ltb, le-leb, lt-leb, eqb-true, eqb-false, ltb-true}
 use Rattle.layout.specs.Choice.{pick, both}
-use Rattle.layout.specs.declared.Side.the-variants.{Transmit, Receive}
-use Rattle.layout.specs.Class.{hdpClass, cpClass, teardownClass, resetClass, controlClass, offsetClass}
-use Rattle.layout.proofs.ChoiceLaws.{pick-same, both-left, both-right, clash, want, shun}
-use Rattle.registers.specs.declared.Regs.{Regs}
-use Rattle.registers.specs.declared.Flags.{Flags}
-use Rattle.registers.specs.declared.Written.{Written}
-use Rattle.registers.specs.Pending.{sideOf, tornDown, hdpOf, cpOf, tornOf, every, some, awaiting, anyTorn}
-use Rattle.registers.specs.Rules.{byClass, zeroingFault, headFault, ackFault, teardownFault, resetFault, zeroFault, registerFault, headWritten, ackWritten, teardownWritten, resetWritten, written}
+use Rattle.layout.specs.Layout.{channels, queues}
+use Rattle.layout.specs.Class.{hdpClass, cpClass, teardownClass, resetClass, controlClass, offsetClass, passedClass, unofferedClass, unguardedClass}
+use Rattle.layout.proofs.ChoiceLaws.{pick-same, want, shun}
+use Rattle.registers.specs.Table.{cpOf, awaiting, setMark, setHdp, setCp, setTearing}
+use Rattle.registers.specs.Rules.{teardownDone, byClass, zeroingFault, headFault, ackFault, teardownFault, resetFault, zeroFault, tearQueue, headNumber, teardownNumber, resetNumber, registerFault, headWritten, ackWritten, resetWritten, written}
 
-pub sideOf-zero : sideOf 0 ≡ Transmit
-unfolding sideOf
-sideOf-zero = refl
-
-pub sideOf-one : sideOf 1 ≡ Receive
-unfolding sideOf
-sideOf-one = refl
-
-pub every-four : (l : List Bool) → length l ≡ 4
-    → every l ≡ both (getD l 0 false) (both (getD l 1 false) (both (getD l 2 false) (getD l 3 false)))
-every-four [] h = absurd (omega arith)
-every-four (a ∷ []) h = absurd (omega arith)
-every-four (a ∷ b ∷ []) h = absurd (omega arith)
-every-four (a ∷ b ∷ c ∷ []) h = absurd (omega arith)
-every-four (a ∷ b ∷ c ∷ true ∷ []) h = refl
-every-four (a ∷ b ∷ c ∷ false ∷ []) h = refl
-every-four (a ∷ b ∷ c ∷ d ∷ e ∷ l) h = absurd (omega arith)
-
-pub some-two : (l : List Bool) → length l ≡ 2 → some l ≡ pick (getD l 0 false) true (getD l 1 false)
-some-two [] h = absurd (omega arith)
-some-two (a ∷ []) h = absurd (omega arith)
-some-two (a ∷ true ∷ []) h = refl
-some-two (a ∷ false ∷ []) h = refl
-some-two (a ∷ b ∷ c ∷ l) h = absurd (omega arith)
+-- ---- by class number
 
 module _ {A : Type 0} (n : ℕ) (head ack teardown : ℕ → A) (reset zero passed unoffered unguarded : A) where
-  pub byClass-head : n < 2 → byClass n head ack teardown reset zero passed unoffered unguarded ≡ head n
+  pub byClass-head : n < hdpClass + queues → byClass n head ack teardown reset zero passed unoffered unguarded ≡ head (n - hdpClass)
   unfolding byClass
-  byClass-head h = simp (lt-ltb n 2 h, sub-zero)
+  byClass-head h = simp (lt-ltb n (hdpClass + queues) h)
 
-  pub byClass-low : 2 ≤ n → n < 16 → byClass n head ack teardown reset zero passed unoffered unguarded ≡ unguarded
+  pub byClass-low : hdpClass + queues ≤ n → n < cpClass → byClass n head ack teardown reset zero passed unoffered unguarded ≡ unguarded
   unfolding byClass
   byClass-low h g =
       simp (
-        le-ltb n 2 h,
-        lt-leb 16 n g,
-        lt-leb 32 n (omega arith),
-        ne-eqb n 34 (λ e. omega arith),
-        le-ltb 34 n (omega arith),
-        lt-leb 48 n (omega arith),
-        lt-leb 64 n (omega arith),
+        le-ltb n (hdpClass + queues) h,
+        lt-leb cpClass n g,
+        lt-leb teardownClass n (omega arith),
+        ne-eqb n resetClass (λ e. omega arith),
+        le-ltb resetClass n (omega arith),
+        lt-leb passedClass n (omega arith),
+        lt-leb unofferedClass n (omega arith),
       )
 
-  pub byClass-ack : 16 ≤ n → n < 18 → byClass n head ack teardown reset zero passed unoffered unguarded ≡ ack (n - 16)
+  pub byClass-ack : cpClass ≤ n → n < cpClass + queues
+      → byClass n head ack teardown reset zero passed unoffered unguarded ≡ ack (n - cpClass)
   unfolding byClass
-  byClass-ack h g = simp (le-ltb n 2 (omega arith), le-leb 16 n h, lt-ltb n 18 g)
+  byClass-ack h g = simp (le-ltb n (hdpClass + queues) (omega arith), le-leb cpClass n h, lt-ltb n (cpClass + queues) g)
 
-  pub byClass-mid : 18 ≤ n → n < 32 → byClass n head ack teardown reset zero passed unoffered unguarded ≡ unguarded
+  pub byClass-mid : cpClass + queues ≤ n → n < teardownClass
+      → byClass n head ack teardown reset zero passed unoffered unguarded ≡ unguarded
   unfolding byClass
   byClass-mid h g =
       simp (
-        le-ltb n 2 (omega arith),
-        le-leb 16 n (omega arith),
-        le-ltb n 18 h,
-        lt-leb 32 n g,
-        ne-eqb n 34 (λ e. omega arith),
-        le-ltb 34 n (omega arith),
-        lt-leb 48 n (omega arith),
-        lt-leb 64 n (omega arith),
+        le-ltb n (hdpClass + queues) (omega arith),
+        le-leb cpClass n (omega arith),
+        le-ltb n (cpClass + queues) h,
+        lt-leb teardownClass n g,
+        ne-eqb n resetClass (λ e. omega arith),
+        le-ltb resetClass n (omega arith),
+        lt-leb passedClass n (omega arith),
+        lt-leb unofferedClass n (omega arith),
       )
 
-  pub byClass-teardown : 32 ≤ n → n < 34 → byClass n head ack teardown reset zero passed unoffered unguarded ≡ teardown (n - 32)
+  pub byClass-teardown : teardownClass ≤ n → n < resetClass
+      → byClass n head ack teardown reset zero passed unoffered unguarded ≡ teardown (n - teardownClass)
   unfolding byClass
   byClass-teardown h g =
-      simp (le-ltb n 2 (omega arith), le-leb 16 n (omega arith), le-ltb n 18 (omega arith), le-leb 32 n h, lt-ltb n 34 g)
+      simp (
+        le-ltb n (hdpClass + queues) (omega arith),
+        le-leb cpClass n (omega arith),
+        le-ltb n (cpClass + queues) (omega arith),
+        le-leb teardownClass n h,
+        lt-ltb n resetClass g,
+      )
 
   -- past the teardowns
-  byClass-past : 34 ≤ n → byClass n head ack teardown reset zero passed unoffered unguarded
-      ≡ pick (eqb n 34) reset
-      (pick (both (ltb 34 n) (ltb n 48)) zero
-      (pick (both (leb 48 n) (ltb n 64)) passed
-      (pick (both (leb 64 n) (ltb n 80)) unoffered unguarded)))
+  byClass-past : resetClass ≤ n → byClass n head ack teardown reset zero passed unoffered unguarded
+      ≡ pick (eqb n resetClass) reset
+      (pick (both (ltb resetClass n) (ltb n passedClass)) zero
+      (pick (both (leb passedClass n) (ltb n unofferedClass)) passed
+      (pick (both (leb unofferedClass n) (ltb n unguardedClass)) unoffered unguarded)))
   unfolding byClass
   byClass-past h =
-      simp (le-ltb n 2 (omega arith), le-leb 16 n (omega arith), le-ltb n 18 (omega arith), le-leb 32 n (omega arith), le-ltb n 34 h)
+      simp (
+        le-ltb n (hdpClass + queues) (omega arith),
+        le-leb cpClass n (omega arith),
+        le-ltb n (cpClass + queues) (omega arith),
+        le-leb teardownClass n (omega arith),
+        le-ltb n resetClass h,
+      )
 
-  pub byClass-reset : n ≡ 34 → byClass n head ack teardown reset zero passed unoffered unguarded ≡ reset
-  byClass-reset h = byClass-past (omega arith) ∙ simp (eq-eqb n 34 h)
+  pub byClass-reset : n ≡ resetClass → byClass n head ack teardown reset zero passed unoffered unguarded ≡ reset
+  byClass-reset h = byClass-past (omega arith) ∙ simp (eq-eqb n resetClass h)
 
-  pub byClass-zero : 34 < n → n < 48 → byClass n head ack teardown reset zero passed unoffered unguarded ≡ zero
-  byClass-zero h g = byClass-past (omega arith) ∙ simp (ne-eqb n 34 (λ e. omega arith), lt-ltb 34 n h, lt-ltb n 48 g)
+  pub byClass-zero : resetClass < n → n < passedClass → byClass n head ack teardown reset zero passed unoffered unguarded ≡ zero
+  byClass-zero h g =
+      byClass-past (omega arith) ∙ simp (ne-eqb n resetClass (λ e. omega arith), lt-ltb resetClass n h, lt-ltb n passedClass g)
 
-  pub byClass-passed : 48 ≤ n → n < 64 → byClass n head ack teardown reset zero passed unoffered unguarded ≡ passed
+  pub byClass-passed : passedClass ≤ n → n < unofferedClass
+      → byClass n head ack teardown reset zero passed unoffered unguarded ≡ passed
   byClass-passed h g =
       byClass-past (omega arith)
-      ∙ simp (ne-eqb n 34 (λ e. omega arith), lt-ltb 34 n (omega arith), le-ltb n 48 h, le-leb 48 n h, lt-ltb n 64 g)
+      ∙ simp (
+        ne-eqb n resetClass (λ e. omega arith),
+        lt-ltb resetClass n (omega arith),
+        le-ltb n passedClass h,
+        le-leb passedClass n h,
+        lt-ltb n unofferedClass g,
+      )
 
-  pub byClass-unoffered : 64 ≤ n → n < 80 → byClass n head ack teardown reset zero passed unoffered unguarded ≡ unoffered
+  pub byClass-unoffered : unofferedClass ≤ n → n < unguardedClass
+      → byClass n head ack teardown reset zero passed unoffered unguarded ≡ unoffered
   byClass-unoffered h g =
       byClass-past (omega arith)
       ∙ simp (
-        ne-eqb n 34 (λ e. omega arith),
-        lt-ltb 34 n (omega arith),
-        le-ltb n 48 (omega arith),
-        le-leb 48 n (omega arith),
-        le-ltb n 64 h,
-        le-leb 64 n h,
-        lt-ltb n 80 g,
+        ne-eqb n resetClass (λ e. omega arith),
+        lt-ltb resetClass n (omega arith),
+        le-ltb n passedClass (omega arith),
+        le-leb passedClass n (omega arith),
+        le-ltb n unofferedClass h,
+        le-leb unofferedClass n h,
+        lt-ltb n unguardedClass g,
       )
 
-  pub byClass-unguarded : 80 ≤ n → byClass n head ack teardown reset zero passed unoffered unguarded ≡ unguarded
+  pub byClass-unguarded : unguardedClass ≤ n → byClass n head ack teardown reset zero passed unoffered unguarded ≡ unguarded
   byClass-unguarded h =
       byClass-past (omega arith)
       ∙ simp (
-        ne-eqb n 34 (λ e. omega arith),
-        lt-ltb 34 n (omega arith),
-        le-ltb n 48 (omega arith),
-        le-leb 48 n (omega arith),
-        le-ltb n 64 (omega arith),
-        le-leb 64 n (omega arith),
-        le-ltb n 80 h,
+        ne-eqb n resetClass (λ e. omega arith),
+        lt-ltb resetClass n (omega arith),
+        le-ltb n passedClass (omega arith),
+        le-leb passedClass n (omega arith),
+        le-ltb n unofferedClass (omega arith),
+        le-leb unofferedClass n (omega arith),
+        le-ltb n unguardedClass h,
       )
 
-pub byClass-rest : {A : Type 0} (n : ℕ) (head ack teardown : ℕ → A) (reset rest : A) → 34 < n
+pub byClass-rest : {A : Type 0} (n : ℕ) (head ack teardown : ℕ → A) (reset rest : A) → resetClass < n
     → byClass n head ack teardown reset rest rest rest rest ≡ rest
 byClass-rest n head ack teardown reset rest h =
-    byClass-past n head ack teardown reset rest rest rest rest (omega arith) ∙ simp (ne-eqb n 34 (λ e. omega arith), pick-same)
-
--- ---- what is awaited, and what is pending
-
-every-at : (l : List Bool) (k : ℕ) → k < length l → every l ≡ true → getD l k false ≡ true
-every-at [] k h e = absurd (omega arith)
-every-at (b ∷ l) zero h e = both-left b (every l) e
-every-at (b ∷ l) (suc k) h e = every-at l k (omega arith) (both-right b (every l) e)
-
-at-every : (l : List Bool) → ((k : ℕ) → k < length l → getD l k false ≡ true) → every l ≡ true
-at-every [] f = refl
-at-every (b ∷ l) f = simp (f 0 (omega arith)) (at-every l (λ k h. f (suc k) (omega arith)))
-
-pub awaiting-marks : (f : Flags) (k : ℕ) → awaiting f ≡ false → k < length (f .marks) → getD (f .marks) k false ≡ true
-unfolding awaiting
-awaiting-marks f k e h = every-at (f .marks) k h (not-false (every (f .marks)) e)
-
-pub marks-awaiting : (f : Flags) → ((k : ℕ) → k < length (f .marks) → getD (f .marks) k false ≡ true) → awaiting f ≡ false
-unfolding awaiting
-marks-awaiting f g = simp (at-every (f .marks) g)
-
-some-at : (l : List Bool) (k : ℕ) → some l ≡ false → getD l k false ≡ false
-some-at [] k e = refl
-some-at (true ∷ l) k e = clash refl e
-some-at (false ∷ l) zero e = refl
-some-at (false ∷ l) (suc k) e = some-at l k e
-
-at-some : (l : List Bool) → ((k : ℕ) → getD l k false ≡ false) → some l ≡ false
-at-some [] f = refl
-at-some (b ∷ l) f = simp (f 0) (at-some l (λ k. f (suc k)))
-
-pub anyTorn-none : (f : Flags) (q : ℕ) → anyTorn f ≡ false → tornOf f q ≡ false
-unfolding anyTorn
-anyTorn-none f q e = some-at (f .torn) q e
-
-pub none-anyTorn : (f : Flags) → ((q : ℕ) → tornOf f q ≡ false) → anyTorn f ≡ false
-unfolding anyTorn
-none-anyTorn f g = at-some (f .torn) g
+    byClass-past n head ack teardown reset rest rest rest rest (omega arith)
+    ∙ simp (ne-eqb n resetClass (λ e. omega arith), pick-same)
 
 -- ---- at each class number
 
-module _ (f : Flags) (r : Regs) (v : ℕ) where
-  pub fault-hdp : (q : ℕ) → q < 2 → registerFault f r (hdpClass + q) v ≡ headFault f r q v
+module _ (t : List ℕ) (v : ℕ) where
+  pub fault-hdp : (q : ℕ) → q < queues → registerFault t (hdpClass + q) v ≡ headNumber t q v
   unfolding registerFault
-  fault-hdp q h = rw zero-add (byClass-head q _ _ _ _ _ _ _ _ h)
+  fault-hdp q h =
+      byClass-head (hdpClass + q) _ _ _ _ _ _ _ _ (omega arith) ∙ ap (λ (k : ℕ). headNumber t k v) (add-sub-cancel-left hdpClass q)
 
-  pub fault-cp : (q : ℕ) → q < 2 → registerFault f r (cpClass + q) v ≡ ackFault f v
+  pub fault-cp : (q : ℕ) → q < queues → registerFault t (cpClass + q) v ≡ ackFault (awaiting t) v
   unfolding registerFault
   fault-cp q h = byClass-ack (cpClass + q) _ _ _ _ _ _ _ _ (omega arith) (omega arith)
 
-  pub fault-teardown : (q : ℕ) → q < 2 → registerFault f r (teardownClass + q) v ≡ teardownFault f r q v
+  pub fault-teardown : (side : ℕ) → side < 2 → registerFault t (teardownClass + side) v ≡ teardownNumber t (tearQueue side v) v
   unfolding registerFault
-  fault-teardown q h =
-      byClass-teardown (teardownClass + q) _ _ _ _ _ _ _ _ (omega arith) (omega arith)
-      ∙ ap (λ (k : ℕ). teardownFault f r k v) (add-sub-cancel-left teardownClass q)
+  fault-teardown side h =
+      byClass-teardown (teardownClass + side) _ _ _ _ _ _ _ _ (omega arith) (omega arith)
+      ∙ ap (λ (k : ℕ). teardownNumber t (tearQueue k v) v) (add-sub-cancel-left teardownClass side)
 
-  pub fault-reset : registerFault f r resetClass v ≡ resetFault f v
-  unfolding registerFault byClass
-  fault-reset = refl
+  pub fault-reset : registerFault t resetClass v ≡ resetNumber t v
+  unfolding registerFault
+  fault-reset = byClass-reset resetClass _ _ _ _ _ _ _ _ refl
 
-  pub fault-control : registerFault f r controlClass v ≡ zeroFault v
-  unfolding registerFault byClass
-  fault-control = refl
+  pub fault-control : registerFault t controlClass v ≡ zeroFault v
+  unfolding registerFault
+  fault-control = byClass-zero controlClass _ _ _ _ _ _ _ _ (omega arith) (omega arith)
 
-  pub fault-offset : registerFault f r offsetClass v ≡ zeroFault v
-  unfolding registerFault byClass
-  fault-offset = refl
+  pub fault-offset : registerFault t offsetClass v ≡ zeroFault v
+  unfolding registerFault
+  fault-offset = byClass-zero offsetClass _ _ _ _ _ _ _ _ (omega arith) (omega arith)
 
-  pub written-hdp : (q : ℕ) → q < 2 → written f r (hdpClass + q) v ≡ headWritten f r q v
+  pub written-hdp : (q : ℕ) → q < queues → written t (hdpClass + q) v ≡ headWritten t q v
   unfolding written
-  written-hdp q h = rw zero-add (byClass-head q _ _ _ _ _ _ _ _ h)
+  written-hdp q h =
+      byClass-head (hdpClass + q) _ _ _ _ _ _ _ _ (omega arith) ∙ ap (λ (k : ℕ). headWritten t k v) (add-sub-cancel-left hdpClass q)
 
-  pub written-cp : (q : ℕ) → q < 2 → written f r (cpClass + q) v ≡ ackWritten f r q v
+  pub written-cp : (q : ℕ) → q < queues → written t (cpClass + q) v ≡ ackWritten t q v
   unfolding written
   written-cp q h =
       byClass-ack (cpClass + q) _ _ _ _ _ _ _ _ (omega arith) (omega arith)
-      ∙ ap (λ (k : ℕ). ackWritten f r k v) (add-sub-cancel-left cpClass q)
+      ∙ ap (λ (k : ℕ). ackWritten t k v) (add-sub-cancel-left cpClass q)
 
-  pub written-teardown : (q : ℕ) → q < 2 → written f r (teardownClass + q) v ≡ teardownWritten f r q
+  pub written-teardown : (side : ℕ) → side < 2 → written t (teardownClass + side) v ≡ setTearing (tearQueue side v) t
   unfolding written
-  written-teardown q h =
-      byClass-teardown (teardownClass + q) _ _ _ _ _ _ _ _ (omega arith) (omega arith)
-      ∙ ap (λ (k : ℕ). teardownWritten f r k) (add-sub-cancel-left teardownClass q)
+  written-teardown side h =
+      byClass-teardown (teardownClass + side) _ _ _ _ _ _ _ _ (omega arith) (omega arith)
+      ∙ ap (λ (k : ℕ). setTearing (tearQueue k v) t) (add-sub-cancel-left teardownClass side)
 
-  pub written-reset : written f r resetClass v ≡ resetWritten f r
-  unfolding written byClass
-  written-reset = refl
+  pub written-reset : written t resetClass v ≡ resetWritten t
+  unfolding written
+  written-reset = byClass-reset resetClass _ _ _ _ _ _ _ _ refl
 
-  pub written-rest : (n : ℕ) → resetClass < n → written f r n v ≡ record { flags = f; regs = r }
+  pub written-rest : (n : ℕ) → resetClass < n → written t n v ≡ t
   unfolding written
   written-rest n h = byClass-rest n _ _ _ _ _ h
+
+-- ---- a write to HDP and to CP
+
+module _ (t : List ℕ) (q v : ℕ) where
+  pub headWritten-zero : awaiting t ≡ true → headWritten t q v ≡ setMark q (setHdp q v t)
+  unfolding headWritten
+  headWritten-zero a = simp a
+
+  pub headWritten-set : awaiting t ≡ false → headWritten t q v ≡ setHdp q v t
+  unfolding headWritten
+  headWritten-set a = simp a
+
+  pub ackWritten-zero : awaiting t ≡ true → ackWritten t q v ≡ setMark (queues + q) (setCp q v t)
+  unfolding ackWritten
+  ackWritten-zero a = simp a
+
+  pub ackWritten-same : awaiting t ≡ false → v ≡ cpOf t q → ackWritten t q v ≡ setCp q 0 t
+  unfolding ackWritten
+  ackWritten-same a e = simp (a, eq-eqb v (cpOf t q) e)
+
+  pub ackWritten-other : awaiting t ≡ false → v ≢ cpOf t q → ackWritten t q v ≡ t
+  unfolding ackWritten
+  ackWritten-other a n = simp (a, ne-eqb v (cpOf t q) n)
+
+-- ---- the queue that a teardown names
+
+pub tearQueue-named : (side v : ℕ) → v < channels → tearQueue side v ≡ 2 * v + side
+unfolding tearQueue
+tearQueue-named side v h = simp (lt-ltb v channels h)
+
+pub tearQueue-none : (side v : ℕ) → channels ≤ v → tearQueue side v ≡ side
+unfolding tearQueue
+tearQueue-none side v h = simp (le-ltb v channels h)
+
+pub tearQueue-lt : (side v : ℕ) → side < 2 → tearQueue side v < queues
+unfolding tearQueue
+tearQueue-lt side v h = at (ltb v channels) refl
+  where
+    at : (b : Bool) → ltb v channels ≡ b → pick b (2 * v + side) side < queues
+    at true e = omega (arith, ltb-true v channels e)
+    at false e = omega arith
 
 -- ---- what no fault tells
 
 pub zeroingFault-none : (v : ℕ) → zeroingFault v ≡ 0 → v ≡ 0
 zeroingFault-none v e = eqb-true v 0 (want 5 (eqb v 0) 0 e .0)
 
-pub headFault-zero : (f : Flags) (r : Regs) (q v : ℕ) → awaiting f ≡ true → headFault f r q v ≡ 0 → v ≡ 0
-unfolding headFault
-headFault-zero f r q v a e = zeroingFault-none v (simp a at e)
-
-pub ackFault-zero : (f : Flags) (v : ℕ) → awaiting f ≡ true → ackFault f v ≡ 0 → v ≡ 0
-unfolding ackFault
-ackFault-zero f v a e = zeroingFault-none v (simp a at e)
-
-pub headFault-none : (f : Flags) (r : Regs) (q v : ℕ) → awaiting f ≡ false → headFault f r q v ≡ 0
-    → (f .reset ≡ false) × (tornOf f q ≡ false) × (v ≢ 0) × (hdpOf r q ≡ 0)
-unfolding headFault
-headFault-none f r q v a e =
-    let b = shun 6 (f .reset) _ (simp a at e) in
-    let c = shun 7 (tornOf f q) _ (b .1) in
-    let d = shun 8 (eqb v 0) _ (c .1) in
-    (b .0, c .0, eqb-false v 0 (d .0), eqb-true (hdpOf r q) 0 (want 9 (eqb (hdpOf r q) 0) 0 (d .1) .0))
-
-pub teardownFault-none : (f : Flags) (r : Regs) (q v : ℕ) → teardownFault f r q v ≡ 0
-    → (awaiting f ≡ false) × (f .reset ≡ false) × (tornOf f q ≡ false) × (v ≡ 0) × (cpOf r q ≢ tornDown)
-unfolding teardownFault
-teardownFault-none f r q v e =
-    let a = shun 5 (awaiting f) _ e in
-    let b = shun 6 (f .reset) _ (a .1) in
-    let c = shun 7 (tornOf f q) _ (b .1) in
-    let d = want 8 (eqb v 0) _ (c .1) in
-    (a .0, b .0, c .0, eqb-true v 0 (d .0), eqb-false (cpOf r q) tornDown (shun 9 (eqb (cpOf r q) tornDown) 0 (d .1) .0))
-
-pub resetFault-none : (f : Flags) (v : ℕ) → resetFault f v ≡ 0
-    → (awaiting f ≡ false) × (f .reset ≡ false) × (anyTorn f ≡ false) × (v ≡ 1)
-unfolding resetFault
-resetFault-none f v e =
-    let a = shun 5 (awaiting f) _ e in
-    let b = shun 6 (f .reset) _ (a .1) in
-    let c = shun 7 (anyTorn f) _ (b .1) in
-    (a .0, b .0, c .0, eqb-true v 1 (want 8 (eqb v 1) 0 (c .1) .0))
-
 pub zeroFault-none : (v : ℕ) → zeroFault v ≡ 0 → v ≡ 0
 unfolding zeroFault
 zeroFault-none v e = eqb-true v 0 (want 8 (eqb v 0) 0 e .0)
+
+pub ackFault-zero : (await : Bool) (v : ℕ) → await ≡ true → ackFault await v ≡ 0 → v ≡ 0
+unfolding ackFault
+ackFault-zero await v a e = zeroingFault-none v (simp a at e)
+
+module _ (await reset tearing : Bool) (v : ℕ) where
+  pub headFault-zero : (hdp : ℕ) → await ≡ true → headFault await reset tearing hdp v ≡ 0 → v ≡ 0
+  unfolding headFault
+  headFault-zero hdp a e = zeroingFault-none v (simp a at e)
+
+  pub headFault-none : (hdp : ℕ) → await ≡ false → headFault await reset tearing hdp v ≡ 0
+      → (reset ≡ false) × (tearing ≡ false) × (v ≢ 0) × (hdp ≡ 0)
+  unfolding headFault
+  headFault-none hdp a e =
+      let b = shun 6 reset _ (simp a at e) in
+      let c = shun 7 tearing _ (b .1) in
+      let d = shun 8 (eqb v 0) _ (c .1) in
+      (b .0, c .0, eqb-false v 0 (d .0), eqb-true hdp 0 (want 9 (eqb hdp 0) 0 (d .1) .0))
+
+  pub teardownFault-none : (cp : ℕ) → teardownFault await reset tearing cp v ≡ 0
+      → (await ≡ false) × (reset ≡ false) × (tearing ≡ false) × (v < channels) × (cp ≢ teardownDone)
+  unfolding teardownFault
+  teardownFault-none cp e =
+      let a = shun 5 await _ e in
+      let b = shun 6 reset _ (a .1) in
+      let c = shun 7 tearing _ (b .1) in
+      let d = want 8 (ltb v channels) _ (c .1) in
+      (a .0, b .0, c .0, ltb-true v channels (d .0), eqb-false cp teardownDone (shun 9 (eqb cp teardownDone) 0 (d .1) .0))
+
+  pub resetFault-none : resetFault await reset tearing v ≡ 0 → (await ≡ false) × (reset ≡ false) × (tearing ≡ false) × (v ≡ 1)
+  unfolding resetFault
+  resetFault-none e =
+      let a = shun 5 await _ e in
+      let b = shun 6 reset _ (a .1) in
+      let c = shun 7 tearing _ (b .1) in
+      (a .0, b .0, c .0, eqb-true v 1 (want 8 (eqb v 1) 0 (c .1) .0))

@@ -1,2 +1,2 @@
-pub mod Pending
+pub mod Table
 pub mod Rules

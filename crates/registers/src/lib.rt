@@ -1,100 +1,73 @@
-// Register writes judged by flags and registers alone: the rules 4 to 10, and what a write without a fault leaves.
-// Promises: the number of each rule is the lowest that document 01 gives for the class, the flags, the registers and the value;
-// after a write without a fault the flags and registers are exactly those that 01 says. The guard reads the rules over the
-// book's flags, the controller without the guard over its own.
+// The small state of guard and controller, one table of words, and the rules 4 to 10 of a register write.
+// Promises: each rule gives the lowest number that document 01 gives for the numbers of one queue; after a write without a fault the
+// table is exactly what 01 says. No rule knows how many queues there are, and nothing here knows descriptors, chains or engines.
 // Document 01, "The book and the release", "Judging".
 
+use layout::BAD_VALUE;
+use layout::BUSY;
+use layout::CHANNELS;
 use layout::CONTROL;
 use layout::CP;
 use layout::HDP;
+use layout::MARKS;
+use layout::NOT_GUARDED;
+use layout::NOT_INITIALISED;
+use layout::NOT_OFFERED;
 use layout::PASSED;
 use layout::QUEUES;
 use layout::RESET;
+use layout::RESET_PENDING;
 use layout::TEARDOWN;
-use layout::TORN_DOWN;
+use layout::TEARDOWN_DONE;
+use layout::TEARDOWN_PENDING;
 use layout::UNGUARDED;
 use layout::UNOFFERED;
+use layout::has_bit;
+use layout::set_bit;
 ghost use mathlib.Core.Path.{_≡_};
-ghost use mathlib.Core.Bool.{true};
-ghost use Prim.Native.Nat.{_<_};
-ghost use Rattle.registers.specs.Pending.{awaiting, anyTorn, setMark, setTorn, setHdp, setCp};
-ghost use Rattle.registers.specs.Rules.{zeroingFault, headFault, ackFault, teardownFault, resetFault, zeroFault, registerFault, headWritten, ackWritten, teardownWritten, resetWritten, written};
+ghost use mathlib.Core.Bool.{Bool};
+ghost use mathlib.Core.List.{List};
+ghost use Prim.Native.Nat.{ℕ, _+_, _<_};
+ghost use Rattle.layout.specs.Choice.{pick};
+ghost use Rattle.layout.specs.Layout.{queues};
+ghost use Rattle.registers.specs.Table.{awaiting, anyTearing, resetOf, bitOf, tearingOf, setMark, setTearing, flagsFit, isDevice, loaded};
+ghost use Rattle.registers.specs.Rules.{zeroingFault, headFault, ackFault, teardownFault, resetFault, zeroFault, tearQueue, headNumber, teardownNumber, resetNumber, registerFault, headWritten, ackWritten, resetWritten, written};
 
-// Refusal numbers.
-pub const NOT_GUARDED: u8 = 4;
+// How many words the table has, and which word is which; the head of queue q is word q. The last two are spare.
+pub const STATE: usize = 3 * QUEUES + 6;
 
-pub const NOT_OFFERED: u8 = 5;
+pub const HDP_AT: usize = QUEUES;
 
-pub const NOT_INITIALISED: u8 = 6;
+pub const CP_AT: usize = 2 * QUEUES;
 
-pub const RESET_PENDING: u8 = 7;
+pub const MARKS_AT: usize = 3 * QUEUES;
 
-pub const TEARDOWN_PENDING: u8 = 8;
+pub const TEARING_AT: usize = 3 * QUEUES + 1;
 
-pub const BAD_VALUE: u8 = 9;
+pub const RESET_AT: usize = 3 * QUEUES + 2;
 
-pub const BUSY: u8 = 10;
+pub const BIT_AT: usize = 3 * QUEUES + 3;
+
+pub type State = [u32; STATE];
+
+// Every mark there is.
+const ALL_MARKS: u32 = ((1u64 << MARKS) - 1) as u32;
+
+// One past the last mask of teardowns.
+const TEARINGS_END: u32 = 1 << QUEUES;
 
 // The last class of each range, by the range's first and that of the next.
-const HDP_LAST: u8 = HDP + 1;
+const HDP_LAST: u8 = HDP + QUEUES as u8 - 1;
 
-const CP_LAST: u8 = CP + 1;
+const CP_LAST: u8 = CP + QUEUES as u8 - 1;
 
-const TEARDOWN_LAST: u8 = TEARDOWN + 1;
+const TEARDOWN_LAST: u8 = RESET - 1;
 
 const ZERO_LAST: u8 = PASSED - 1;
 
 const PASSED_LAST: u8 = UNOFFERED - 1;
 
 const UNOFFERED_LAST: u8 = UNGUARDED - 1;
-
-// The registers that guard and controller read: both HDPs, both CPs and the reset bit.
-pub struct Regs {
-    pub hdp: [u32; 2],
-    pub cp: [u32; 2],
-    pub bit: bool,
-}
-
-// Which of the four registers have been zeroed (HDP of queue q at q, CP at 2 + q), and what is pending.
-pub struct Flags {
-    pub marks: [bool; 4],
-    pub reset: bool,
-    pub torn: [bool; 2],
-}
-
-// Flags and registers together, as a write leaves them.
-pub struct Written {
-    pub flags: Flags,
-    pub regs: Regs,
-}
-
-// Whether any of the four registers is not yet zeroed.
-pub fn is_awaiting(f: Flags) -> bool
-    ensures { λ r. ⌜ r ≡ awaiting f ⌝ }
-{
-    let marks = f.marks;
-    if !marks[0] {
-        return true;
-    }
-    if !marks[1] {
-        return true;
-    }
-    if !marks[2] {
-        return true;
-    }
-    !marks[3]
-}
-
-// Whether teardown is pending for some queue.
-pub fn any_torn(f: Flags) -> bool
-    ensures { λ r. ⌜ r ≡ anyTorn f ⌝ }
-{
-    let torn = f.torn;
-    if torn[0] {
-        return true;
-    }
-    torn[1]
-}
 
 // 6 for HDP and CP while initialisation is awaited.
 fn zeroing_fault(v: u32) -> u8
@@ -106,77 +79,71 @@ fn zeroing_fault(v: u32) -> u8
     NOT_INITIALISED
 }
 
-// HDP of queue q.
-pub fn head_fault(f: Flags, r: Regs, q: usize, v: u32) -> u8
-    requires { ⌜ q < 2 ⌝ }
-    ensures { λ n. ⌜ n ≡ headFault f r q v ⌝ }
+// HDP of a queue.
+pub fn head_fault(awaiting: bool, reset: bool, tearing: bool, hdp: u32, v: u32) -> u8
+    ensures { λ n. ⌜ n ≡ headFault awaiting reset tearing hdp v ⌝ }
 {
-    if is_awaiting(f) {
+    if awaiting {
         return zeroing_fault(v);
     }
-    if f.reset {
+    if reset {
         return RESET_PENDING;
     }
-    let torn = f.torn;
-    if torn[q] {
+    if tearing {
         return TEARDOWN_PENDING;
     }
     if v == 0 {
         return BAD_VALUE;
     }
-    let hdp = r.hdp;
-    if hdp[q] == 0 {
+    if hdp == 0 {
         return 0;
     }
     BUSY
 }
 
 // CP of any queue.
-pub fn ack_fault(f: Flags, v: u32) -> u8
-    ensures { λ n. ⌜ n ≡ ackFault f v ⌝ }
+pub fn ack_fault(awaiting: bool, v: u32) -> u8
+    ensures { λ n. ⌜ n ≡ ackFault awaiting v ⌝ }
 {
-    if is_awaiting(f) {
+    if awaiting {
         return zeroing_fault(v);
     }
     0
 }
 
-// TX_TEARDOWN or RX_TEARDOWN, by its queue.
-pub fn teardown_fault(f: Flags, r: Regs, q: usize, v: u32) -> u8
-    requires { ⌜ q < 2 ⌝ }
-    ensures { λ n. ⌜ n ≡ teardownFault f r q v ⌝ }
+// TX_TEARDOWN or RX_TEARDOWN, of the queue that the value names.
+pub fn teardown_fault(awaiting: bool, reset: bool, tearing: bool, cp: u32, v: u32) -> u8
+    ensures { λ n. ⌜ n ≡ teardownFault awaiting reset tearing cp v ⌝ }
 {
-    if is_awaiting(f) {
+    if awaiting {
         return NOT_INITIALISED;
     }
-    if f.reset {
+    if reset {
         return RESET_PENDING;
     }
-    let torn = f.torn;
-    if torn[q] {
+    if tearing {
         return TEARDOWN_PENDING;
     }
-    if v != 0 {
+    if CHANNELS as u32 <= v {
         return BAD_VALUE;
     }
-    let cp = r.cp;
-    if cp[q] == TORN_DOWN {
+    if cp == TEARDOWN_DONE {
         return BUSY;
     }
     0
 }
 
-// CPDMA_SOFT_RESET.
-pub fn reset_fault(f: Flags, v: u32) -> u8
-    ensures { λ n. ⌜ n ≡ resetFault f v ⌝ }
+// CPDMA_SOFT_RESET; tearing: a teardown of any queue.
+pub fn reset_fault(awaiting: bool, reset: bool, tearing: bool, v: u32) -> u8
+    ensures { λ n. ⌜ n ≡ resetFault awaiting reset tearing v ⌝ }
 {
-    if is_awaiting(f) {
+    if awaiting {
         return NOT_INITIALISED;
     }
-    if f.reset {
+    if reset {
         return RESET_PENDING;
     }
-    if any_torn(f) {
+    if tearing {
         return TEARDOWN_PENDING;
     }
     if v == 1 {
@@ -195,15 +162,110 @@ pub fn zero_fault(v: u32) -> u8
     BAD_VALUE
 }
 
-// The fault of a write of v to a register of class n, or 0.
-pub fn register_fault(f: Flags, r: Regs, n: u8, v: u32) -> u8
-    ensures { λ k. ⌜ k ≡ registerFault f r n v ⌝ }
+// The queue that the value v names at the teardown register of a side: 0 transmit, 1 receive.
+pub fn tear_queue(side: usize, v: u32) -> usize
+    requires { ⌜ side < 2 ⌝ }
+    ensures { λ q. ⌜ (q ≡ tearQueue side v) × (q < queues) ⌝ }
+{
+    if v < CHANNELS as u32 {
+        return 2 * (v as usize) + side;
+    }
+    side
+}
+
+// Whether any register is not yet zeroed.
+pub fn is_awaiting(t: &State) -> bool
+    ensures { λ r. ⌜ r ≡ awaiting (now (t .entry)) ⌝ }
+{
+    t[MARKS_AT] != ALL_MARKS
+}
+
+// Whether teardown is pending for queue q.
+pub fn is_tearing(t: &State, q: usize) -> bool
+    requires { ⌜ q < queues ⌝ }
+    ensures { λ r. ⌜ r ≡ tearingOf (now (t .entry)) q ⌝ }
+{
+    has_bit(t[TEARING_AT], q as u32)
+}
+
+// Whether teardown is pending for some queue.
+pub fn is_any_tearing(t: &State) -> bool
+    ensures { λ r. ⌜ r ≡ anyTearing (now (t .entry)) ⌝ }
+{
+    t[TEARING_AT] != 0
+}
+
+// Whether reset is pending.
+pub fn is_resetting(t: &State) -> bool
+    ensures { λ r. ⌜ r ≡ resetOf (now (t .entry)) ⌝ }
+{
+    t[RESET_AT] == 1
+}
+
+// The reset bit, as its register reads.
+pub fn has_reset_bit(t: &State) -> bool
+    ensures { λ r. ⌜ r ≡ bitOf (now (t .entry)) ⌝ }
+{
+    has_bit(t[BIT_AT], 0)
+}
+
+// Whether the flags are flags: 2 where not.
+pub fn are_flags(t: &State) -> bool
+    ensures { λ r. ⌜ r ≡ flagsFit (now (t .entry)) ⌝ }
+{
+    if ALL_MARKS < t[MARKS_AT] {
+        return false;
+    }
+    if TEARINGS_END <= t[TEARING_AT] {
+        return false;
+    }
+    t[RESET_AT] <= 1
+}
+
+// The number of a write of v to HDP of queue q.
+pub fn head_number(t: &State, q: usize, v: u32) -> u8
+    requires { ⌜ q < queues ⌝ }
+    ensures { λ n. ⌜ n ≡ headNumber (now (t .entry)) q v ⌝ }
+{
+    head_fault(
+        is_awaiting(t),
+        is_resetting(t),
+        is_tearing(t, q),
+        t[HDP_AT + q],
+        v,
+    )
+}
+
+// The number of a write of v to a teardown register, where it names queue q.
+pub fn teardown_number(t: &State, q: usize, v: u32) -> u8
+    requires { ⌜ q < queues ⌝ }
+    ensures { λ n. ⌜ n ≡ teardownNumber (now (t .entry)) q v ⌝ }
+{
+    teardown_fault(
+        is_awaiting(t),
+        is_resetting(t),
+        is_tearing(t, q),
+        t[CP_AT + q],
+        v,
+    )
+}
+
+// The number of a write of v to the reset register.
+pub fn reset_number(t: &State, v: u32) -> u8
+    ensures { λ n. ⌜ n ≡ resetNumber (now (t .entry)) v ⌝ }
+{
+    reset_fault(is_awaiting(t), is_resetting(t), is_any_tearing(t), v)
+}
+
+// The number of a write of v to a register of class n, or 0.
+pub fn register_fault(t: &State, n: u8, v: u32) -> u8
+    ensures { λ k. ⌜ k ≡ registerFault (now (t .entry)) n v ⌝ }
 {
     match n {
-        HDP..=HDP_LAST => head_fault(f, r, (n - HDP) as usize, v),
-        CP..=CP_LAST => ack_fault(f, v),
-        TEARDOWN..=TEARDOWN_LAST => teardown_fault(f, r, (n - TEARDOWN) as usize, v),
-        RESET => reset_fault(f, v),
+        HDP..=HDP_LAST => head_number(t, (n - HDP) as usize, v),
+        CP..=CP_LAST => ack_fault(is_awaiting(t), v),
+        TEARDOWN..=TEARDOWN_LAST => teardown_number(t, tear_queue((n - TEARDOWN) as usize, v), v),
+        RESET => reset_number(t, v),
         CONTROL..=ZERO_LAST => zero_fault(v),
         PASSED..=PASSED_LAST => 0,
         UNOFFERED..=UNOFFERED_LAST => NOT_OFFERED,
@@ -211,102 +273,99 @@ pub fn register_fault(f: Flags, r: Regs, n: u8, v: u32) -> u8
     }
 }
 
-fn set_mark(f: Flags, k: usize) -> Flags
-    requires { ⌜ k < 4 ⌝ }
-    ensures { λ g. ⌜ g ≡ setMark k f ⌝ }
+// Register k of those that await a zero has its own.
+fn set_mark(t: &mut State, k: usize)
+    requires { ⌜ k < 32 ⌝ }
+    ensures { λ _. ⌜ now (t .exit) ≡ setMark k (now (t .entry)) ⌝ }
 {
-    let mut g = f;
-    g.marks[k] = true;
-    g
+    t[MARKS_AT] = set_bit(t[MARKS_AT], k as u32);
 }
 
-fn set_torn(f: Flags, q: usize) -> Flags
-    requires { ⌜ q < 2 ⌝ }
-    ensures { λ g. ⌜ g ≡ setTorn q true f ⌝ }
+// v is written to HDP of queue q.
+pub fn write_head(t: &mut State, q: usize, v: u32)
+    requires { ⌜ q < queues ⌝ }
+    ensures { λ _. ⌜ now (t .exit) ≡ headWritten (now (t .entry)) q v ⌝ }
 {
-    let mut g = f;
-    g.torn[q] = true;
-    g
-}
-
-fn set_hdp(r: Regs, q: usize, v: u32) -> Regs
-    requires { ⌜ q < 2 ⌝ }
-    ensures { λ s. ⌜ s ≡ setHdp q v r ⌝ }
-{
-    let mut s = r;
-    s.hdp[q] = v;
-    s
-}
-
-fn set_cp(r: Regs, q: usize, v: u32) -> Regs
-    requires { ⌜ q < 2 ⌝ }
-    ensures { λ s. ⌜ s ≡ setCp q v r ⌝ }
-{
-    let mut s = r;
-    s.cp[q] = v;
-    s
-}
-
-// HDP of queue q after v was written to it.
-pub fn head_written(f: Flags, r: Regs, q: usize, v: u32) -> Written
-    requires { ⌜ q < 2 ⌝ }
-    ensures { λ w. ⌜ w ≡ headWritten f r q v ⌝ }
-{
-    let regs = set_hdp(r, q, v);
-    if is_awaiting(f) {
-        let flags = set_mark(f, q);
-        return Written { flags, regs };
+    if is_awaiting(t) {
+        t[HDP_AT + q] = v;
+        set_mark(t, q);
+        return;
     }
-    Written { flags: f, regs }
+    t[HDP_AT + q] = v;
 }
 
-// CP of queue q after v was written to it.
-pub fn ack_written(f: Flags, r: Regs, q: usize, v: u32) -> Written
-    requires { ⌜ q < 2 ⌝ }
-    ensures { λ w. ⌜ w ≡ ackWritten f r q v ⌝ }
+// v is written to CP of queue q.
+pub fn write_ack(t: &mut State, q: usize, v: u32)
+    requires { ⌜ q < queues ⌝ }
+    ensures { λ _. ⌜ now (t .exit) ≡ ackWritten (now (t .entry)) q v ⌝ }
 {
-    if is_awaiting(f) {
-        let flags = set_mark(f, QUEUES + q);
-        let regs = set_cp(r, q, v);
-        return Written { flags, regs };
+    if is_awaiting(t) {
+        t[CP_AT + q] = v;
+        set_mark(t, QUEUES + q);
+        return;
     }
-    let cp = r.cp;
-    if v == cp[q] {
-        let regs = set_cp(r, q, 0);
-        return Written { flags: f, regs };
+    if v != t[CP_AT + q] {
+        return;
     }
-    Written { flags: f, regs: r }
+    t[CP_AT + q] = 0;
 }
 
 // Teardown becomes pending for queue q.
-pub fn teardown_written(f: Flags, r: Regs, q: usize) -> Written
-    requires { ⌜ q < 2 ⌝ }
-    ensures { λ w. ⌜ w ≡ teardownWritten f r q ⌝ }
+pub fn begin_teardown(t: &mut State, q: usize)
+    requires { ⌜ q < queues ⌝ }
+    ensures { λ _. ⌜ now (t .exit) ≡ setTearing q (now (t .entry)) ⌝ }
 {
-    let flags = set_torn(f, q);
-    Written { flags, regs: r }
+    t[TEARING_AT] = set_bit(t[TEARING_AT], q as u32);
 }
 
 // Reset becomes pending and sets its bit.
-pub fn reset_written(f: Flags, r: Regs) -> Written
-    ensures { λ w. ⌜ w ≡ resetWritten f r ⌝ }
+pub fn begin_reset(t: &mut State)
+    ensures { λ _. ⌜ now (t .exit) ≡ resetWritten (now (t .entry)) ⌝ }
 {
-    let mut flags = f;
-    flags.reset = true;
-    let mut regs = r;
-    regs.bit = true;
-    Written { flags, regs }
+    t[RESET_AT] = 1;
+    t[BIT_AT] = 1;
 }
 
-// Flags and registers after a write of v, without a fault, to a register of class n.
-pub fn register_written(f: Flags, r: Regs, n: u8, v: u32) -> Written
-    ensures { λ w. ⌜ w ≡ written f r n v ⌝ }
+// The table after a write of v, without a fault, to a register of class n.
+pub fn write_register(t: &mut State, n: u8, v: u32)
+    ensures { λ _. ⌜ now (t .exit) ≡ written (now (t .entry)) n v ⌝ }
 {
     match n {
-        HDP..=HDP_LAST => head_written(f, r, (n - HDP) as usize, v),
-        CP..=CP_LAST => ack_written(f, r, (n - CP) as usize, v),
-        TEARDOWN..=TEARDOWN_LAST => teardown_written(f, r, (n - TEARDOWN) as usize),
-        RESET => reset_written(f, r),
-        _ => Written { flags: f, regs: r },
+        HDP..=HDP_LAST => write_head(t, (n - HDP) as usize, v),
+        CP..=CP_LAST => write_ack(t, (n - CP) as usize, v),
+        TEARDOWN..=TEARDOWN_LAST => begin_teardown(t, tear_queue((n - TEARDOWN) as usize, v)),
+        RESET => begin_reset(t),
+        _ => {}
+    }
+}
+
+// Whether word k is one of the device's registers.
+fn is_device(k: usize) -> bool
+    ensures { λ r. ⌜ r ≡ isDevice k ⌝ }
+{
+    if k < HDP_AT {
+        return false;
+    }
+    if k < MARKS_AT {
+        return true;
+    }
+    k == BIT_AT
+}
+
+// One of two words.
+fn choose(first: bool, a: u32, b: u32) -> u32
+    ensures { λ r. ⌜ r ≡ pick first a b ⌝ }
+{
+    if first { a } else { b }
+}
+
+// The registers in the table are those of c: they are the device's, and are read anew before each call.
+pub fn load_registers(t: &mut State, c: &State)
+    ensures { λ _. ⌜ now (t .exit) ≡ loaded (now (c .entry)) (now (t .entry)) ⌝ }
+{
+    let mut k: usize = 0;
+    while k < STATE {
+        t[k] = choose(is_device(k), c[k], t[k]);
+        k += 1;
     }
 }

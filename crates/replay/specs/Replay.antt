@@ -1,18 +1,14 @@
 -- A bench file replayed: records in, events out, lines printed. Document 01, "The bench".
---     engineOf e              "0 reset, 1 transmit, 2 receive, 3, 4 their teardowns"
 --     stepsOf e c s           c steps of an engine: the bursts made, and the machine afterwards
 --     recordOf r s            one record on a machine: what happened, and the machine afterwards
 --     replay bs               all that is printed for the input bs
 -- Assumes nothing: these are definitions.
 use Prim.Native.Nat.{ℕ, zero, suc, _+_}
-use mathlib.Core.Bool.{Bool, true, false}
+use mathlib.Core.Bool.{true, false}
 use mathlib.Core.List.{List, [], _∷_, _++_}
 use lib.ListN.{length, take, drop}
-use lib.Dec.{eqb}
-use Rattle.layout.specs.Choice.{pick}
 use Rattle.guard.specs.Answers.{numberOf}
-use Rattle.controller.specs.declared.Engine.{Engine}
-use Rattle.controller.specs.declared.Engine.the-variants.{Reset, Transmit, Receive, TearTransmit, TearReceive}
+use Rattle.phases.specs.declared.Engine.{Engine}
 use Rattle.machine.specs.Machine.{Machine, write, kind, frame, step, apply, freshMachine}
 use Rattle.records.specs.declared.Record.{Record}
 use Rattle.records.specs.declared.Record.the-variants.{Ram, Write, Kind, Frame, Steps}
@@ -20,10 +16,6 @@ use Rattle.records.specs.declared.Decoded.{Decoded}
 use Rattle.records.specs.declared.Decoded.the-variants.{End, Good, Bad}
 use Rattle.records.specs.Records.{decode}
 use Rattle.records.specs.Lines.{Event, wrote, changed, framed, moved, linesOf, sentLine, badLine}
-
-unfoldable pub engineOf : ℕ → Engine
-engineOf e =
-    pick (eqb e 0) Reset (pick (eqb e 1) Transmit (pick (eqb e 2) Receive (pick (eqb e 3) TearTransmit TearReceive)))
 
 abbrev pub Played : Type 0
 Played = List Event × Machine
@@ -42,7 +34,7 @@ recordOf (Ram n) s = ([], s)
 recordOf (Write a v) s = let x = apply (write a v) s in (wrote a (numberOf (x .answer)) ∷ [], x .machine)
 recordOf (Kind b k) s = let x = apply (kind b k) s in (changed b (numberOf (x .answer)) ∷ [], x .machine)
 recordOf (Frame n) s = let x = apply (frame n) s in (framed n (numberOf (x .answer)) ∷ [], x .machine)
-recordOf (Steps e c) s = stepsOf (engineOf e) c s
+recordOf (Steps e c) s = stepsOf e c s
 
 -- what is printed from offset o on, where a record was decoded; rest prints what follows it
 abbrev pub replayAt : ℕ → Machine → List ℕ → (ℕ → Machine → List ℕ → List ℕ) → Decoded → List ℕ

@@ -1,2 +1,2 @@
 pub mod TagLaws
-pub mod LentLaws
+pub mod PartLaws

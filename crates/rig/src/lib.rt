@@ -3,15 +3,17 @@
 // (`lentBy`, `cameBy`, specs/Lent.antt; which word holds what: specs/Record.antt). It is linked by tests/probe alone.
 // Document 01, "The controller's steps".
 
-use controller::Arrived;
+use controller::Channel;
 use controller::Controller;
-use controller::Engine;
 use controller::Stepped;
 use controller::unguarded_write;
 use host::hosted;
 use host::hosted_frame;
+use layout::CHANNELS;
+use layout::QUEUES;
 use phases::Burst;
 use phases::Closing;
+use phases::Engine;
 use phases::Filled;
 use phases::Finished;
 use phases::Frame;
@@ -22,23 +24,26 @@ use phases::Receiving;
 use phases::Sending;
 use phases::Stored;
 use phases::Storing;
-use registers::Flags;
-use registers::Regs;
+use registers::State;
 ghost use mathlib.Core.Path.{_≡_};
+ghost use Rattle.layout.specs.Layout.{channels};
 ghost use Rattle.controller.specs.Controller.{stepOf, frameOf, unguardedWrite};
-ghost use Rattle.rig.specs.Record.{isSet, flagWord, stageIn, regsIn, flagsIn, stagesIn, controllerIn};
-ghost use Rattle.rig.specs.Record.{packetIn, readingIn, finishedIn, closingIn, sendingBy, sendingWords};
-ghost use Rattle.rig.specs.Record.{frameIn, storingIn, filledIn, storedIn, receivingBy, receivingWords, burstWords};
-ghost use Rattle.rig.specs.Record.{savedRegs, savedFlags, savedStages, savedSending, savedReceiving};
-ghost use Rattle.rig.specs.Record.{savedRecord, savedTotals};
+ghost use Rattle.rig.specs.Record.{flagWord, sendingIn, receivingIn, channelsIn, sendingWords, receivingWords, burstWords};
+ghost use Rattle.rig.specs.Record.{parts, controllerIn, txTo, rxTo, savedIn};
 ghost use Rattle.rig.specs.Lent.{engineAt, lent, lentBy, came, cameBy};
 
-// A flag from its word.
-fn is_set(n: u32) -> bool
-    ensures { λ r. ⌜ r ≡ isSet n ⌝ }
-{
-    n == 1
-}
+// A record is lent as its own table and stages, a row of words for each engine, and the rest: sent, received, undefined.
+type Stages = [u8; QUEUES];
+
+type SendingRow = [u32; 8];
+
+type ReceivingRow = [u32; 9];
+
+type SendingRows = [SendingRow; CHANNELS];
+
+type ReceivingRows = [ReceivingRow; CHANNELS];
+
+type Rest = [u64; 3];
 
 // The word of a flag.
 fn flag_word(b: bool) -> u32
@@ -47,213 +52,157 @@ fn flag_word(b: bool) -> u32
     if b { 1 } else { 0 }
 }
 
-// Which teardown step comes next, from its word.
-fn read_stage(n: u32) -> u8
-    ensures { λ r. ⌜ r ≡ stageIn n ⌝ }
-{
-    if n == 1 {
-        return 1;
-    }
-    if n == 2 {
-        return 2;
-    }
-    3
-}
-
 // Who takes a step, by number.
-fn read_engine(e: u32) -> Engine
-    ensures { λ r. ⌜ r ≡ engineAt e ⌝ }
+fn read_engine(e: u8, ch: u8) -> Engine
+    ensures { λ r. ⌜ r ≡ engineAt e ch ⌝ }
 {
     match e {
         0 => Engine::Reset,
-        1 => Engine::Transmit,
-        2 => Engine::Receive,
-        3 => Engine::TearTransmit,
-        _ => Engine::TearReceive,
+        1 => Engine::Transmit(ch),
+        2 => Engine::Receive(ch),
+        3 => Engine::TearTransmit(ch),
+        _ => Engine::TearReceive(ch),
     }
 }
 
-// The registers, from their words.
-fn read_regs(c: &[u32; 32]) -> Regs
-    ensures { λ r. ⌜ r ≡ regsIn (now (c .entry)) ⌝ }
+// The transmit phase of a row.
+fn read_sending(w: SendingRow) -> Sending
+    ensures { λ r. ⌜ r ≡ sendingIn w ⌝ }
 {
-    let hdp = [c[0], c[1]];
-    let cp = [c[2], c[3]];
-    let bit = is_set(c[4]);
-    Regs { hdp, cp, bit }
-}
-
-// The flags, from their words.
-fn read_flags(c: &[u32; 32]) -> Flags
-    ensures { λ r. ⌜ r ≡ flagsIn (now (c .entry)) ⌝ }
-{
-    let marks = [is_set(c[5]), is_set(c[6]), is_set(c[7]), is_set(c[8])];
-    let reset = is_set(c[9]);
-    let torn = [is_set(c[10]), is_set(c[11])];
-    Flags { marks, reset, torn }
-}
-
-// The stages, from their words.
-fn read_stages(c: &[u32; 32]) -> [u8; 2]
-    ensures { λ r. ⌜ r ≡ stagesIn (now (c .entry)) ⌝ }
-{
-    [read_stage(c[12]), read_stage(c[13])]
-}
-
-// The numbers of each transmit phase, from their words.
-fn read_packet(c: &[u32; 32]) -> Packet
-    ensures { λ r. ⌜ r ≡ packetIn (now (c .entry)) ⌝ }
-{
-    Packet {
-        sop: c[16],
-        word3: c[17],
-        sum: c[18],
-    }
-}
-
-fn read_reading(c: &[u32; 32]) -> Reading
-    ensures { λ r. ⌜ r ≡ readingIn (now (c .entry)) ⌝ }
-{
-    let eop = is_set(c[22]);
-    Reading {
-        sop: c[16],
-        word3: c[17],
-        sum: c[18],
-        at: c[19],
-        left: c[20],
-        next: c[21],
-        eop: eop,
-    }
-}
-
-fn read_finished(c: &[u32; 32]) -> Finished
-    ensures { λ r. ⌜ r ≡ finishedIn (now (c .entry)) ⌝ }
-{
-    let eop = is_set(c[22]);
-    Finished {
-        sop: c[16],
-        word3: c[17],
-        sum: c[18],
-        next: c[21],
-        eop: eop,
-    }
-}
-
-fn read_closing(c: &[u32; 32]) -> Closing
-    ensures { λ r. ⌜ r ≡ closingIn (now (c .entry)) ⌝ }
-{
-    Closing {
-        sop: c[16],
-        word3: c[17],
-        next: c[21],
-    }
-}
-
-// The transmit phase of a tag, from its words.
-fn read_sending(tag: u32, c: &[u32; 32]) -> Sending
-    ensures { λ r. ⌜ r ≡ sendingBy tag (now (c .entry)) ⌝ }
-{
+    let tag = w[0];
+    let sop = w[1];
+    let word3 = w[2];
+    let sum = w[3];
+    let at = w[4];
+    let left = w[5];
+    let next = w[6];
+    let eop = w[7] == 1;
     match tag {
         0 => Sending::Idle,
         1 => Sending::New,
-        2 => Sending::Within(read_packet(c)),
-        3 => Sending::Moving(read_reading(c)),
-        4 => Sending::Ended(read_finished(c)),
-        5 => Sending::Marking(read_closing(c)),
-        6 => Sending::Owning(read_closing(c)),
-        _ => Sending::Done(Leaving { next: c[21] }),
+        2 => Sending::Within(Packet { sop, word3, sum }),
+        3 => Sending::Moving(Reading {
+            sop,
+            word3,
+            sum,
+            at,
+            left,
+            next,
+            eop,
+        }),
+        4 => Sending::Ended(Finished {
+            sop,
+            word3,
+            sum,
+            next,
+            eop,
+        }),
+        5 => Sending::Marking(Closing { sop, word3, next }),
+        6 => Sending::Owning(Closing { sop, word3, next }),
+        _ => Sending::Done(Leaving { next }),
     }
 }
 
-// The numbers of each receive phase, from their words.
-fn read_frame(c: &[u32; 32]) -> Frame
-    ensures { λ r. ⌜ r ≡ frameIn (now (c .entry)) ⌝ }
+// The receive phase of a row.
+fn read_receiving(w: ReceivingRow) -> Receiving
+    ensures { λ r. ⌜ r ≡ receivingIn w ⌝ }
 {
-    Frame {
-        first: c[24],
-        stored: c[25],
-        left: c[26],
-    }
-}
-
-fn read_storing(c: &[u32; 32]) -> Storing
-    ensures { λ r. ⌜ r ≡ storingIn (now (c .entry)) ⌝ }
-{
-    Storing {
-        first: c[24],
-        stored: c[25],
-        left: c[26],
-        at: c[27],
-        room: c[28],
-        here: c[29],
-    }
-}
-
-fn read_filled(c: &[u32; 32]) -> Filled
-    ensures { λ r. ⌜ r ≡ filledIn (now (c .entry)) ⌝ }
-{
-    Filled {
-        first: c[24],
-        stored: c[25],
-        left: c[26],
-        room: c[28],
-        here: c[29],
-    }
-}
-
-fn read_stored(c: &[u32; 32]) -> Stored
-    ensures { λ r. ⌜ r ≡ storedIn (now (c .entry)) ⌝ }
-{
-    let overrun = is_set(c[31]);
-    Stored {
-        first: c[24],
-        stored: c[25],
-        here: c[29],
-        next: c[30],
-        overrun: overrun,
-    }
-}
-
-// The receive phase of a tag, from its words.
-fn read_receiving(tag: u32, c: &[u32; 32]) -> Receiving
-    ensures { λ r. ⌜ r ≡ receivingBy tag (now (c .entry)) ⌝ }
-{
+    let tag = w[0];
+    let first = w[1];
+    let stored = w[2];
+    let left = w[3];
+    let at = w[4];
+    let room = w[5];
+    let here = w[6];
+    let next = w[7];
+    let overrun = w[8] == 1;
     match tag {
         0 => Receiving::Idle,
         1 => Receiving::Wait,
-        2 => Receiving::Fetch(read_frame(c)),
-        3 => Receiving::Moving(read_storing(c)),
-        4 => Receiving::Ended(read_filled(c)),
-        5 => Receiving::Last(read_stored(c)),
-        6 => Receiving::First(read_stored(c)),
-        _ => Receiving::Done(Leaving { next: c[30] }),
+        2 => Receiving::Fetch(Frame {
+            first,
+            stored,
+            left,
+        }),
+        3 => Receiving::Moving(Storing {
+            first,
+            stored,
+            left,
+            at,
+            room,
+            here,
+        }),
+        4 => Receiving::Ended(Filled {
+            first,
+            stored,
+            left,
+            room,
+            here,
+        }),
+        5 => Receiving::Last(Stored {
+            first,
+            stored,
+            here,
+            next,
+            overrun,
+        }),
+        6 => Receiving::First(Stored {
+            first,
+            stored,
+            here,
+            next,
+            overrun,
+        }),
+        _ => Receiving::Done(Leaving { next }),
     }
 }
 
-// The record, from its words and totals.
-fn read_controller(c: &[u32; 32], t: &[u64; 2]) -> Controller
-    ensures { λ r. ⌜ r ≡ controllerIn (now (c .entry)) (now (t .entry)) ⌝ }
+// The channels of all rows.
+fn read_channels(tx: &SendingRows, rx: &ReceivingRows) -> [Channel; CHANNELS]
+    ensures { λ r. ⌜ r ≡ channelsIn (now (tx .entry)) (now (rx .entry)) ⌝ }
 {
-    let regs = read_regs(c);
-    let flags = read_flags(c);
-    let stages = read_stages(c);
-    let tx = read_sending(c[15], c);
-    let rx = read_receiving(c[23], c);
-    let undefined = is_set(c[14]);
+    let idle = Channel {
+        tx: Sending::Idle,
+        rx: Receiving::Idle,
+    };
+    let mut all = [idle; CHANNELS];
+    let mut ch: usize = 0;
+    while ch < CHANNELS {
+        let t = read_sending(tx[ch]);
+        let r = read_receiving(rx[ch]);
+        let x = Channel { tx: t, rx: r };
+        all[ch] = x;
+        ch += 1;
+    }
+    all
+}
+
+// The record of all parts.
+fn read_record(
+    state: &State,
+    stages: &Stages,
+    tx: &SendingRows,
+    rx: &ReceivingRows,
+    rest: &Rest,
+) -> Controller
+    ensures { λ r. ⌜ r ≡ controllerIn (parts (now (state .entry)) (now (stages .entry)) (now (tx .entry)) (now (rx .entry)) (now (rest .entry))) ⌝ }
+{
+    let channels = read_channels(tx, rx);
+    let table = *state;
+    let steps = *stages;
+    let undefined = rest[2] == 1;
     Controller {
-        regs: regs,
-        flags: flags,
-        stages: stages,
-        tx: tx,
-        rx: rx,
+        state: table,
+        stages: steps,
+        channels: channels,
         undefined: undefined,
-        sent: t[0],
-        received: t[1],
+        sent: rest[0],
+        received: rest[1],
     }
 }
 
-// A transmit phase in words: its tag, then its numbers, 0 for those that it does not use.
-fn sending_words(s: Sending) -> [u32; 8]
+// A transmit phase in a row: its tag, then its numbers, 0 for those that it does not use.
+fn sending_words(s: Sending) -> SendingRow
     ensures { λ r. ⌜ r ≡ sendingWords s ⌝ }
 {
     match s {
@@ -278,7 +227,7 @@ fn sending_words(s: Sending) -> [u32; 8]
 }
 
 // A receive phase, likewise.
-fn receiving_words(s: Receiving) -> [u32; 9]
+fn receiving_words(s: Receiving) -> ReceivingRow
     ensures { λ r. ⌜ r ≡ receivingWords s ⌝ }
 {
     match s {
@@ -324,129 +273,89 @@ fn burst_words(b: Burst) -> [u32; 3]
     }
 }
 
-// The registers into their words.
-fn save_regs(c: &mut [u32; 32], r: Regs)
-    ensures { λ _. ⌜ now (c .exit) ≡ savedRegs (now (c .entry)) r ⌝ }
+// The channels into their rows.
+fn save_channels(tx: &mut SendingRows, rx: &mut ReceivingRows, all: [Channel; CHANNELS])
+    ensures { λ _. ⌜ (now (tx .exit) ≡ txTo channels all (now (tx .entry))) × (now (rx .exit) ≡ rxTo channels all (now (rx .entry))) ⌝ }
 {
-    let hdp = r.hdp;
-    c[0] = hdp[0];
-    c[1] = hdp[1];
-    let cp = r.cp;
-    c[2] = cp[0];
-    c[3] = cp[1];
-    c[4] = flag_word(r.bit);
+    let mut ch: usize = 0;
+    while ch < CHANNELS {
+        let x = all[ch];
+        let t = x.tx;
+        let r = x.rx;
+        let sending = sending_words(t);
+        tx[ch] = sending;
+        let receiving = receiving_words(r);
+        rx[ch] = receiving;
+        ch += 1;
+    }
 }
 
-// The flags into their words.
-fn save_flags(c: &mut [u32; 32], f: Flags)
-    ensures { λ _. ⌜ now (c .exit) ≡ savedFlags (now (c .entry)) f ⌝ }
+// The record into its parts.
+fn save_record(
+    state: &mut State,
+    stages: &mut Stages,
+    tx: &mut SendingRows,
+    rx: &mut ReceivingRows,
+    rest: &mut Rest,
+    k: Controller,
+)
+    ensures { λ _. ⌜ parts (now (state .exit)) (now (stages .exit)) (now (tx .exit)) (now (rx .exit)) (now (rest .exit))
+        ≡ savedIn (parts (now (state .entry)) (now (stages .entry)) (now (tx .entry)) (now (rx .entry)) (now (rest .entry))) k ⌝ }
 {
-    let marks = f.marks;
-    c[5] = flag_word(marks[0]);
-    c[6] = flag_word(marks[1]);
-    c[7] = flag_word(marks[2]);
-    c[8] = flag_word(marks[3]);
-    c[9] = flag_word(f.reset);
-    let torn = f.torn;
-    c[10] = flag_word(torn[0]);
-    c[11] = flag_word(torn[1]);
+    let channels = k.channels;
+    save_channels(tx, rx, channels);
+    let undefined = flag_word(k.undefined) as u64;
+    let table = k.state;
+    *state = table;
+    let steps = k.stages;
+    *stages = steps;
+    *rest = [k.sent, k.received, undefined];
 }
 
-// The stages, and whether the record is undefined, into their words.
-fn save_stages(c: &mut [u32; 32], s: [u8; 2], undefined: bool)
-    ensures { λ _. ⌜ now (c .exit) ≡ savedStages (now (c .entry)) s undefined ⌝ }
-{
-    c[12] = s[0] as u32;
-    c[13] = s[1] as u32;
-    c[14] = flag_word(undefined);
-}
-
-// The transmit phase into its words.
-fn save_sending(c: &mut [u32; 32], s: Sending)
-    ensures { λ _. ⌜ now (c .exit) ≡ savedSending (now (c .entry)) s ⌝ }
-{
-    let w = sending_words(s);
-    c[15] = w[0];
-    c[16] = w[1];
-    c[17] = w[2];
-    c[18] = w[3];
-    c[19] = w[4];
-    c[20] = w[5];
-    c[21] = w[6];
-    c[22] = w[7];
-}
-
-// The receive phase into its words.
-fn save_receiving(c: &mut [u32; 32], s: Receiving)
-    ensures { λ _. ⌜ now (c .exit) ≡ savedReceiving (now (c .entry)) s ⌝ }
-{
-    let w = receiving_words(s);
-    c[23] = w[0];
-    c[24] = w[1];
-    c[25] = w[2];
-    c[26] = w[3];
-    c[27] = w[4];
-    c[28] = w[5];
-    c[29] = w[6];
-    c[30] = w[7];
-    c[31] = w[8];
-}
-
-// The record into its words.
-fn save_record(c: &mut [u32; 32], k: Controller)
-    ensures { λ _. ⌜ now (c .exit) ≡ savedRecord (now (c .entry)) k ⌝ }
-{
-    let regs = k.regs;
-    save_regs(c, regs);
-    let flags = k.flags;
-    save_flags(c, flags);
-    let stages = k.stages;
-    save_stages(c, stages, k.undefined);
-    let tx = k.tx;
-    save_sending(c, tx);
-    let rx = k.rx;
-    save_receiving(c, rx);
-}
-
-// The totals into theirs.
-fn save_totals(t: &mut [u64; 2], k: Controller)
-    ensures { λ _. ⌜ now (t .exit) ≡ savedTotals (now (t .entry)) k ⌝ }
-{
-    t[0] = k.sent;
-    t[1] = k.received;
-}
-
-// What a step left, into the arrays, and its answer.
-fn save_stepped(c: &mut [u32; 32], t: &mut [u64; 2], b: &mut [u32; 3], s: Stepped) -> u32
+// What a step left, into the parts and the burst's words, and its answer.
+fn save_stepped(
+    state: &mut State,
+    stages: &mut Stages,
+    tx: &mut SendingRows,
+    rx: &mut ReceivingRows,
+    rest: &mut Rest,
+    burst: &mut [u32; 3],
+    s: Stepped,
+) -> u32
     ensures { λ r. ⌜ (r ≡ s .number)
-        × (now (c .exit) ≡ savedRecord (now (c .entry)) (s .ctl))
-        × (now (t .exit) ≡ savedTotals (now (t .entry)) (s .ctl))
-        × (now (b .exit) ≡ burstWords (s .burst)) ⌝ }
+        × (parts (now (state .exit)) (now (stages .exit)) (now (tx .exit)) (now (rx .exit)) (now (rest .exit))
+        ≡ savedIn (parts (now (state .entry)) (now (stages .entry)) (now (tx .entry)) (now (rx .entry)) (now (rest .entry))) (s .ctl))
+        × (now (burst .exit) ≡ burstWords (s .burst)) ⌝ }
 {
     let ctl = s.ctl;
-    save_record(c, ctl);
-    save_totals(t, ctl);
-    let burst = s.burst;
-    *b = burst_words(burst);
+    save_record(state, stages, tx, rx, rest, ctl);
+    let b = s.burst;
+    *burst = burst_words(b);
     s.number as u32
 }
 
-// One step of an engine, on any record.
+// One step, on any record: of the reset (0), or on that channel of an engine (1, 2) or its teardown (3, 4).
 #[no_mangle]
 pub extern "C" fn gresomund_step(
-    engine: u32,
+    engine: u8,
+    channel: u8,
     mem: &mut [u8],
-    words: &mut [u32; 32],
-    totals: &mut [u64; 2],
+    state: &mut State,
+    stages: &mut Stages,
+    tx: &mut SendingRows,
+    rx: &mut ReceivingRows,
+    rest: &mut Rest,
     burst: &mut [u32; 3],
 ) -> u32
-    ensures { λ r. ⌜ lent r (now (words .exit)) (now (totals .exit)) (now (burst .exit)) (now (mem .exit))
-        ≡ lentBy (now (words .entry)) (now (totals .entry)) (stepOf (engineAt engine) (controllerIn (now (words .entry)) (now (totals .entry))) (now (mem .entry))) ⌝ }
+    ensures { λ r. ⌜ lent r (parts (now (state .exit)) (now (stages .exit)) (now (tx .exit)) (now (rx .exit)) (now (rest .exit))) (now (burst .exit)) (now (mem .exit))
+        ≡ lentBy (parts (now (state .entry)) (now (stages .entry)) (now (tx .entry)) (now (rx .entry)) (now (rest .entry)))
+        (stepOf (engineAt engine channel)
+        (controllerIn (parts (now (state .entry)) (now (stages .entry)) (now (tx .entry)) (now (rx .entry)) (now (rest .entry)))) (now (mem .entry))) ⌝ }
 {
-    let e = read_engine(engine);
-    let k = read_controller(words, totals);
+    let e = read_engine(engine, channel);
+    let k = read_record(state, stages, tx, rx, rest);
     let s = hosted(k, mem, e);
-    save_stepped(words, totals, burst, s)
+    save_stepped(state, stages, tx, rx, rest, burst, s)
 }
 
 // A write that no guard has judged, on any record.
@@ -455,28 +364,40 @@ pub extern "C" fn gresomund_unguarded(
     address: u32,
     value: u32,
     mem: &mut [u8],
-    words: &mut [u32; 32],
-    totals: &mut [u64; 2],
+    state: &mut State,
+    stages: &mut Stages,
+    tx: &mut SendingRows,
+    rx: &mut ReceivingRows,
+    rest: &mut Rest,
     burst: &mut [u32; 3],
 ) -> u32
-    ensures { λ r. ⌜ lent r (now (words .exit)) (now (totals .exit)) (now (burst .exit)) (now (mem .exit))
-        ≡ lentBy (now (words .entry)) (now (totals .entry)) (unguardedWrite address value (controllerIn (now (words .entry)) (now (totals .entry))) (now (mem .entry))) ⌝ }
+    ensures { λ r. ⌜ lent r (parts (now (state .exit)) (now (stages .exit)) (now (tx .exit)) (now (rx .exit)) (now (rest .exit))) (now (burst .exit)) (now (mem .exit))
+        ≡ lentBy (parts (now (state .entry)) (now (stages .entry)) (now (tx .entry)) (now (rx .entry)) (now (rest .entry)))
+        (unguardedWrite address value
+        (controllerIn (parts (now (state .entry)) (now (stages .entry)) (now (tx .entry)) (now (rx .entry)) (now (rest .entry)))) (now (mem .entry))) ⌝ }
 {
-    let k = read_controller(words, totals);
+    let k = read_record(state, stages, tx, rx, rest);
     let s = unguarded_write(k, mem, address, value);
-    save_stepped(words, totals, burst, s)
+    save_stepped(state, stages, tx, rx, rest, burst, s)
 }
 
 // A frame of n bytes comes, on any record.
 #[no_mangle]
-pub extern "C" fn gresomund_frame(n: u32, words: &mut [u32; 32], totals: &mut [u64; 2]) -> u32
-    ensures { λ r. ⌜ came r (now (words .exit)) (now (totals .exit))
-        ≡ cameBy (now (words .entry)) (now (totals .entry)) (frameOf n (controllerIn (now (words .entry)) (now (totals .entry)))) ⌝ }
+pub extern "C" fn gresomund_frame(
+    n: u32,
+    state: &mut State,
+    stages: &mut Stages,
+    tx: &mut SendingRows,
+    rx: &mut ReceivingRows,
+    rest: &mut Rest,
+) -> u32
+    ensures { λ r. ⌜ came r (parts (now (state .exit)) (now (stages .exit)) (now (tx .exit)) (now (rx .exit)) (now (rest .exit)))
+        ≡ cameBy (parts (now (state .entry)) (now (stages .entry)) (now (tx .entry)) (now (rx .entry)) (now (rest .entry)))
+        (frameOf n (controllerIn (parts (now (state .entry)) (now (stages .entry)) (now (tx .entry)) (now (rx .entry)) (now (rest .entry))))) ⌝ }
 {
-    let k = read_controller(words, totals);
+    let k = read_record(state, stages, tx, rx, rest);
     let a = hosted_frame(k, n);
     let ctl = a.ctl;
-    save_record(words, ctl);
-    save_totals(totals, ctl);
+    save_record(state, stages, tx, rx, rest, ctl);
     a.number as u32
 }

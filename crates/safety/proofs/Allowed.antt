@@ -1,56 +1,158 @@
--- What the guard accepts, the controller's own rules allow: whatever the world, as long as the book's flags and the registers are
--- the controller's. So an accepted write never makes the controller undefined, and book and controller move together.
+-- What the guard accepts, the controller's own rules allow: whatever the world, as long as what the rules read of its small state is
+-- the controller's. So an accepted write never makes the controller undefined, and guard and controller move together.
 -- Assumes nothing.
---     Agrees s c            the book's flags and the registers are the controller's, which is not undefined
---     Carried x t           the controller answers 0, and leaves the memory, registers and flags of the world t
+--     Alike t c             the tables t and c say the same of registers and flags, which is all but heads
+--     Agrees s c            the small state of the world s is alike the controller's table, and the controller is not undefined
+--     Carried x t           the controller answers 0, and leaves the memory of the world t, and a table alike its small state
+--     marks-alike, .., fault-alike, written-alike   alike tables have the same faults, and are alike after a write
 --     write-memory, write-register    where a write that no guard has judged goes
 --     fault-holds           a choice by a fault's number
 --     head-fault, head-written   the rules of an HDP, by its class
 --     registerWrite-carried a register write without fault is carried out
 --     allowed               what `judge` accepts, is carried out
 --     judge-kinds           no guest write touches the kinds
-use Prim.Native.Nat.{ℕ, _+_, _-_, _/_, _%_, _<_}
+use Prim.Native.Nat.{ℕ, _+_, _-_, _/_, _%_, _≤_, _<_}
 use mathlib.Core.Path.{_≡_, refl, ap, _∙_, sym}
 use mathlib.Core.Bool.{Bool, true, false, not}
 use mathlib.Core.List.{List}
 use mathlib.Core.Logic.{_≢_}
-use native.Mathlib.Nat.{sub-zero}
 use native.Mathlib.Omega.{arith}
-use lib.ListN.{length}
+use lib.ListN.{length, getD, set, length-set}
+use lib.Seq.{getD-set-same, getD-set-other}
 use lib.Dec.{eqb, ltb}
 use borrow.Author.Tests.{eq-eqb, eqb-true, eqb-false, ltb-true}
 use Rattle.layout.specs.Choice.{pick, both}
-use Rattle.layout.specs.Layout.{descFirst, descBytes, inDescriptors}
+use Rattle.layout.specs.Bits.{setBit}
+use Rattle.layout.specs.Layout.{descFirst, descBytes, inDescriptors, queues, sideOf}
 use Rattle.layout.specs.Class.{classAt, hdpClass}
-use Rattle.layout.specs.declared.Side.{Side}
-use Rattle.layout.specs.declared.Side.the-variants.{Transmit, Receive}
+use Rattle.layout.proofs.ChoiceLaws.{pick-holds}
 use Rattle.words.specs.Word.{word, put}
 use Rattle.words.specs.WordSet.{has}
 use Rattle.words.proofs.WordLaws.{length-put, put-put-same}
-use Rattle.registers.specs.declared.Flags.{Flags}
-use Rattle.registers.specs.declared.Regs.{Regs}
-use Rattle.registers.specs.declared.Written.{Written}
-use Rattle.registers.specs.Pending.{queues, queueOf, sideOf, awaiting, setHdp}
-use Rattle.registers.specs.Rules.{headFault, registerFault, headWritten, written}
-use Rattle.registers.proofs.RegisterLaws.{byClass-head}
-use Rattle.book.specs.World.{World, headOf, setFlags, setRegs}
+use Rattle.registers.specs.Table.{stateWords, hdpAt, cpAt, marksAt, tearingAt, resetAt, bitAt, allMarks, headOf, hdpOf, cpOf, marksOf, tearingsOf, awaiting, anyTearing, resetOf, headsOf, setHead, setMark, setTearing}
+use Rattle.registers.specs.Rules.{tearQueue, headNumber, teardownNumber, resetNumber, registerFault, headWritten, ackWritten, written}
+use Rattle.registers.proofs.RegisterLaws.{byClass-head, tearQueue-lt, headWritten-set}
+use Rattle.book.specs.World.{World, setState}
+use Rattle.queue.proofs.NumberLaws.{each}
+use Rattle.queue.proofs.CallLaws.{byClass-both}
 use Rattle.guard.specs.declared.Effect.the-variants.{Plain}
+use Rattle.guard.specs.declared.Tail.{Tail}
+use Rattle.guard.specs.declared.Tail.the-variants.{Of, Nobody}
 use Rattle.guard.specs.Answers.{numberOf, Outcome, accept, refuse}
-use Rattle.guard.specs.Judges.{judgeChain, judgeStart, judgeHead, judgeRegister, isLast, judgeAppend, judgeLast, judgeWord, judgeClass, judge}
+use Rattle.guard.specs.Judges.{judgeChain, judgeStart, judgeHead, judgeRegister, tailIn, judgeAppend, atTail, judgeLast, judgeWord, judgeClass, judge}
 use Rattle.controller.specs.declared.Controller.{Controller}
 use Rattle.controller.specs.Controller.{Moved, answer, unguardedWrite, registerWrite}
-use Rattle.safety.proofs.Refusals.{pick-holds}
+
+-- ---- tables that say the same
+
+pub record Alike (t c : List ℕ) : Type 0 where
+  pub same : (k : ℕ) → queues ≤ k → k ≤ bitAt → getD t k 0 ≡ getD c k 0
 
 pub record Agrees (s : World) (c : Controller) : Type 0 where
-  pub flags : s .book .flags ≡ c .flags
-  pub regs : s .regs ≡ c .regs
+  pub alike : Alike (s .state) (c .state)
+  pub here : length (s .state) ≡ stateWords
+  pub there : length (c .state) ≡ stateWords
   pub defined : c .undefined ≡ false
 
 pub record Carried (x : Moved) (t : World) : Type 0 where
   pub number : x .number ≡ 0
   pub mem : x .mem ≡ t .mem
-  pub regs : x .ctl .regs ≡ t .regs
-  pub flags : x .ctl .flags ≡ t .book .flags
+  pub alike : Alike (t .state) (x .ctl .state)
+
+alike-refl : (t : List ℕ) → Alike t t
+alike-refl t = record { same = λ k h g. refl }
+
+alike-trans : {t u c : List ℕ} → Alike t u → Alike u c → Alike t c
+alike-trans a b = record { same = λ k h g. a .same k h g ∙ b .same k h g }
+
+module _ {t c : List ℕ} (a : Alike t c) where
+  hdp-alike : (q : ℕ) → q < queues → hdpOf t q ≡ hdpOf c q
+  hdp-alike q h = a .same (hdpAt q) (omega arith) (omega arith)
+
+  cp-alike : (q : ℕ) → q < queues → cpOf t q ≡ cpOf c q
+  cp-alike q h = a .same (cpAt q) (omega arith) (omega arith)
+
+  pub marks-alike : marksOf t ≡ marksOf c
+  marks-alike = a .same marksAt (omega arith) (omega arith)
+
+  pub tearings-alike : tearingsOf t ≡ tearingsOf c
+  tearings-alike = a .same tearingAt (omega arith) (omega arith)
+
+  pub reset-alike : resetOf t ≡ resetOf c
+  unfolding resetOf
+  reset-alike = ap (λ (n : ℕ). eqb n 1) (a .same resetAt (omega arith) (omega arith))
+
+  pub awaiting-alike : awaiting t ≡ awaiting c
+  unfolding awaiting
+  awaiting-alike = ap (λ (m : ℕ). not (eqb m allMarks)) marks-alike
+
+  any-alike : anyTearing t ≡ anyTearing c
+  unfolding anyTearing
+  any-alike = ap (λ (m : ℕ). not (eqb m 0)) tearings-alike
+
+  pub head-alike : (q v : ℕ) → q < queues → headNumber t q v ≡ headNumber c q v
+  head-alike q v h = rw (awaiting-alike, reset-alike, tearings-alike, hdp-alike q h) refl
+
+  teardown-alike : (q v : ℕ) → q < queues → teardownNumber t q v ≡ teardownNumber c q v
+  teardown-alike q v h = rw (awaiting-alike, reset-alike, tearings-alike, cp-alike q h) refl
+
+  resets-alike : (v : ℕ) → resetNumber t v ≡ resetNumber c v
+  resets-alike v = rw (awaiting-alike, reset-alike, any-alike) refl
+
+  -- a head that is set is read by no rule
+  heads-alike : (q p : ℕ) → q < queues → Alike (setHead q p t) c
+  heads-alike q p h = record { same = λ k g l. getD-set-other t q k p 0 (λ e. omega arith) ∙ a .same k g l }
+
+-- ---- by class
+
+module _ {t c : List ℕ} (a : Alike t c) (n v : ℕ) where
+  pub fault-alike : registerFault t n v ≡ registerFault c n v
+  unfolding registerFault
+  fault-alike =
+      byClass-both _≡_ n _ _ _ _ _ _ _ _ _ _ _ _ _ _ _ _ (λ h. head-alike a (n - hdpClass) v (omega arith)) (λ q h. rw (awaiting-alike a) refl)
+      (λ x h. teardown-alike a (tearQueue x v) v (tearQueue-lt x v h)) (resets-alike a v) refl refl refl refl
+
+module _ {t c : List ℕ} (a : Alike t c) (lt : length t ≡ stateWords) (lc : length c ≡ stateWords) where
+  set-alike : (k v : ℕ) → Alike (set t k v) (set c k v)
+  set-alike k v = record {
+    same = each (λ j. queues ≤ j → j ≤ bitAt → getD (set t k v) j 0 ≡ getD (set c k v) j 0) k
+        (λ h g. getD-set-same t k v 0 (omega arith) ∙ sym (getD-set-same c k v 0 (omega arith)))
+        (λ j n h g. getD-set-other t k j v 0 n ∙ a .same j h g ∙ sym (getD-set-other c k j v 0 n));
+  }
+
+  mark-alike : (k : ℕ) → Alike (setMark k t) (setMark k c)
+  mark-alike k = rw (marks-alike a) (set-alike marksAt (setBit k (marksOf c)))
+
+  tears-alike : (q : ℕ) → Alike (setTearing q t) (setTearing q c)
+  tears-alike q = rw (tearings-alike a) (set-alike tearingAt (setBit q (tearingsOf c)))
+
+pick-alike : (x y : Bool) (t₁ t₂ c₁ c₂ : List ℕ) → x ≡ y → Alike t₁ c₁ → Alike t₂ c₂ → Alike (pick x t₁ t₂) (pick y c₁ c₂)
+pick-alike x y t₁ t₂ c₁ c₂ e p q = rw e (at y)
+  where
+    at : (z : Bool) → Alike (pick z t₁ t₂) (pick z c₁ c₂)
+    at true = p
+    at false = q
+
+module _ {t c : List ℕ} (a : Alike t c) (lt : length t ≡ stateWords) (lc : length c ≡ stateWords) (v : ℕ) where
+  headWritten-alike : (q : ℕ) → Alike (headWritten t q v) (headWritten c q v)
+  unfolding headWritten
+  headWritten-alike q =
+      let b = set-alike a lt lc (hdpAt q) v in
+      pick-alike (awaiting t) (awaiting c) _ _ _ _ (awaiting-alike a) (mark-alike b (length-set t (hdpAt q) v ∙ lt) (length-set c (hdpAt q) v ∙ lc) q) b
+
+  ackWritten-alike : (q : ℕ) → q < queues → Alike (ackWritten t q v) (ackWritten c q v)
+  unfolding ackWritten
+  ackWritten-alike q h =
+      pick-alike (awaiting t) (awaiting c) _ _ _ _ (awaiting-alike a)
+      (mark-alike (set-alike a lt lc (cpAt q) v) (length-set t (cpAt q) v ∙ lt) (length-set c (cpAt q) v ∙ lc) (queues + q))
+      (pick-alike (eqb v (cpOf t q)) (eqb v (cpOf c q)) _ _ _ _ (ap (eqb v) (cp-alike a q h)) (set-alike a lt lc (cpAt q) 0) a)
+
+  pub written-alike : (n : ℕ) → Alike (written t n v) (written c n v)
+  unfolding written
+  written-alike n =
+      byClass-both Alike n _ _ _ _ _ _ _ _ _ _ _ _ _ _ _ _ (λ h. headWritten-alike (n - hdpClass)) ackWritten-alike
+      (λ x h. tears-alike a lt lc (tearQueue x v))
+      (set-alike (set-alike a lt lc resetAt 1) (length-set t resetAt 1 ∙ lt) (length-set c resetAt 1 ∙ lc) bitAt 1) a a a a
 
 -- ---- where a write goes
 
@@ -73,104 +175,106 @@ fault-holds P n x y f g = at (eqb n 0) refl
     at true e = f (eqb-true n 0 e)
     at false e = g (eqb-false n 0 e)
 
--- a word of descriptor memory was stored, and flags and registers are as they were
+-- a word of descriptor memory was stored, and the small state is as it was
 record Stored (k v : ℕ) (s : World) (o : Outcome) : Type 0 where
   mem : numberOf (o .answer) ≡ 0 → o .world .mem ≡ put (s .mem) k v
-  regs : numberOf (o .answer) ≡ 0 → o .world .regs ≡ s .regs
-  flags : numberOf (o .answer) ≡ 0 → o .world .book .flags ≡ s .book .flags
+  state : numberOf (o .answer) ≡ 0 → o .world .state ≡ s .state
   kinds : o .world .kinds ≡ s .kinds
 
 refuse-stored : (k v : ℕ) (s : World) (n : ℕ) → n ≢ 0 → Stored k v s (refuse n s)
-refuse-stored k v s n h = record { mem = λ e. absurd (h e); regs = λ e. absurd (h e); flags = λ e. absurd (h e); kinds = refl }
+refuse-stored k v s n h = record { mem = λ e. absurd (h e); state = λ e. absurd (h e); kinds = refl }
 
-append-stored : (side : Side) (k v : ℕ) (s : World) → Stored k v s (judgeAppend side k v s)
+append-stored : (q k v : ℕ) (s : World) → Stored k v s (judgeAppend q k v s)
 unfolding judgeAppend
-append-stored side k v s =
-    fault-holds (Stored k v s) (judgeChain side v s .0) _ _ (λ z. record { mem = λ e. refl; regs = λ e. refl; flags = λ e. refl; kinds = refl }) (λ h. refuse-stored k v s _ h)
+append-stored q k v s =
+    fault-holds (Stored k v s) (judgeChain (sideOf q) v s .0) _ _ (λ z. record { mem = λ e. refl; state = λ e. refl; kinds = refl }) (λ h. refuse-stored k v s _ h)
 
 last-stored : (k v : ℕ) (s : World) → Stored k v s (judgeLast k v s)
 unfolding judgeLast
-last-stored k v s =
-    pick-holds (Stored k v s) (isLast (word (s .mem)) (headOf s (queueOf Transmit)) k) _ _ (append-stored Transmit k v s)
-    (pick-holds (Stored k v s) (isLast (word (s .mem)) (headOf s (queueOf Receive)) k) _ _ (append-stored Receive k v s)
-    (refuse-stored k v s 11 (omega arith)))
+last-stored k v s = at (tailIn (word (s .mem)) k 0 (headsOf (s .state)))
+  where
+    at : (t : Tail) → Stored k v s (atTail t (λ q. judgeAppend q k v s) (refuse 11 s))
+    at Nobody = refuse-stored k v s 11 (omega arith)
+    at (Of q) = append-stored q k v s
 
 word-stored : (k v : ℕ) (s : World) → Stored k v s (judgeWord k v s)
 unfolding judgeWord
 word-stored k v s =
     pick-holds (Stored k v s) (has (s .used) k) _ _
     (pick-holds (Stored k v s) (both (eqb (word (s .mem) k) 0) (not (eqb v 0))) _ _ (last-stored k v s) (refuse-stored k v s 11 (omega arith)))
-    (record { mem = λ e. refl; regs = λ e. refl; flags = λ e. refl; kinds = refl })
+    (record { mem = λ e. refl; state = λ e. refl; kinds = refl })
 
--- a register was written: its rules over these flags gave no fault (k), and flags and registers are as those rules say (x)
-record Ruled (k : ℕ) (x : Written) (s : World) (o : Outcome) : Type 0 where
+-- a register was written: its rules over the small state gave no fault (k), and but for a head the table is as those rules say (x)
+record Ruled (k : ℕ) (x : List ℕ) (s : World) (o : Outcome) : Type 0 where
   fault : numberOf (o .answer) ≡ 0 → k ≡ 0
   mem : numberOf (o .answer) ≡ 0 → o .world .mem ≡ s .mem
-  regs : numberOf (o .answer) ≡ 0 → o .world .regs ≡ x .regs
-  flags : numberOf (o .answer) ≡ 0 → o .world .book .flags ≡ x .flags
+  state : numberOf (o .answer) ≡ 0 → length (s .state) ≡ stateWords → Alike (o .world .state) x
   kinds : o .world .kinds ≡ s .kinds
 
-refuse-ruled : (k : ℕ) (x : Written) (s : World) (n : ℕ) → n ≢ 0 → Ruled k x s (refuse n s)
-refuse-ruled k x s n h = record { fault = λ e. absurd (h e); mem = λ e. absurd (h e); regs = λ e. absurd (h e); flags = λ e. absurd (h e); kinds = refl }
+refuse-ruled : (k : ℕ) (x : List ℕ) (s : World) (n : ℕ) → n ≢ 0 → Ruled k x s (refuse n s)
+refuse-ruled k x s n h = record { fault = λ e. absurd (h e); mem = λ e. absurd (h e); state = λ e l. absurd (h e); kinds = refl }
 
-register-ruled : (n v : ℕ) (s : World) → Ruled (registerFault (s .book .flags) (s .regs) n v) (written (s .book .flags) (s .regs) n v) s (judgeRegister n v s)
+register-ruled : (n v : ℕ) (s : World) → Ruled (registerFault (s .state) n v) (written (s .state) n v) s (judgeRegister n v s)
 unfolding judgeRegister
 register-ruled n v s =
-    fault-holds (Ruled _ _ s) _ _ _ (λ z. record { fault = λ e. z; mem = λ e. refl; regs = λ e. refl; flags = λ e. refl; kinds = refl }) (λ h. refuse-ruled _ _ s _ h)
+    fault-holds (Ruled _ _ s) _ _ _ (λ z. record { fault = λ e. z; mem = λ e. refl; state = λ e l. alike-refl _; kinds = refl }) (λ h. refuse-ruled _ _ s _ h)
 
-pub head-fault : (f : Flags) (r : Regs) (n v : ℕ) → n < 2 → registerFault f r n v ≡ headFault f r n v
+pub head-fault : (t : List ℕ) (n v : ℕ) → n < hdpClass + queues → registerFault t n v ≡ headNumber t (n - hdpClass) v
 unfolding registerFault
-head-fault f r n v h = byClass-head n _ _ _ _ _ _ _ _ h
+head-fault t n v h = byClass-head n _ _ _ _ _ _ _ _ h
 
-pub head-written : (f : Flags) (r : Regs) (n v : ℕ) → n < 2 → written f r n v ≡ headWritten f r n v
+pub head-written : (t : List ℕ) (n v : ℕ) → n < hdpClass + queues → written t n v ≡ headWritten t (n - hdpClass) v
 unfolding written
-head-written f r n v h = byClass-head n _ _ _ _ _ _ _ _ h
+head-written t n v h = byClass-head n _ _ _ _ _ _ _ _ h
 
-headWritten-started : (f : Flags) (r : Regs) (q v : ℕ) → awaiting f ≡ false → headWritten f r q v ≡ record { flags = f; regs = setHdp q v r }
-unfolding headWritten
-headWritten-started f r q v e = rw e refl
-
--- a start writes HDP as an accepted HDP write does once initialisation is over
-start-ruled : (q v : ℕ) (s : World) → awaiting (s .book .flags) ≡ false → headFault (s .book .flags) (s .regs) q v ≡ 0
-    → Ruled (headFault (s .book .flags) (s .regs) q v) (headWritten (s .book .flags) (s .regs) q v) s (judgeStart q v s)
-start-ruled q v s a z =
-    let w = headWritten-started (s .book .flags) (s .regs) q v a in
+-- a start writes HDP as an accepted HDP write does once initialisation is over; the head beside it is read by no rule
+start-ruled : (q v : ℕ) (s : World) → q < queues → awaiting (s .state) ≡ false → headNumber (s .state) q v ≡ 0
+    → Ruled (headNumber (s .state) q v) (headWritten (s .state) q v) s (judgeStart q v s)
+start-ruled q v s h a z =
     fault-holds (Ruled _ _ s) (judgeChain (sideOf q) v s .0) _ _
-    (λ y. record { fault = λ e. z; mem = λ e. refl; regs = λ e. ap (λ (x : Written). x .regs) (sym w); flags = λ e. ap (λ (x : Written). x .flags) (sym w); kinds = refl })
-    (λ h. refuse-ruled _ _ s _ h)
+    (λ y. record {
+      fault = λ e. z;
+      mem = λ e. refl;
+      state = λ e l. rw (headWritten-set (s .state) q v a) (set-alike (heads-alike (alike-refl (s .state)) q v h) (length-set (s .state) q v ∙ l) l (hdpAt q) v);
+      kinds = refl;
+    })
+    (λ n. refuse-ruled _ _ s _ n)
 
-head-ruled : (q v : ℕ) (s : World)
-    → Ruled (headFault (s .book .flags) (s .regs) q v) (headWritten (s .book .flags) (s .regs) q v) s (judgeHead q v s)
+head-ruled : (q v : ℕ) (s : World) → q < queues → Ruled (headNumber (s .state) q v) (headWritten (s .state) q v) s (judgeHead q v s)
 unfolding judgeHead
-head-ruled q v s = fault-holds (Ruled _ _ s) _ _ _ (λ z. at (awaiting (s .book .flags)) refl z) (λ h. refuse-ruled _ _ s _ h)
+head-ruled q v s h = fault-holds (Ruled _ _ s) _ _ _ (λ z. at (awaiting (s .state)) refl z) (λ n. refuse-ruled _ _ s _ n)
   where
-    x : Written
-    x = headWritten (s .book .flags) (s .regs) q v
+    at : (t : Bool) → awaiting (s .state) ≡ t → headNumber (s .state) q v ≡ 0
+        → Ruled (headNumber (s .state) q v) (headWritten (s .state) q v) s
+        (pick t (accept Plain (setState (headWritten (s .state) q v) s)) (pick (eqb (headOf (s .state) q) 0) (judgeStart q v s) (refuse 10 s)))
+    at true a z = record { fault = λ e. z; mem = λ e. refl; state = λ e l. alike-refl _; kinds = refl }
+    at false a z = pick-holds (Ruled _ _ s) (eqb (headOf (s .state) q) 0) _ _ (start-ruled q v s h a z) (refuse-ruled _ _ s 10 (omega arith))
 
-    at : (t : Bool) → awaiting (s .book .flags) ≡ t → headFault (s .book .flags) (s .regs) q v ≡ 0
-        → Ruled (headFault (s .book .flags) (s .regs) q v) x s
-        (pick t (accept Plain (setRegs (x .regs) (setFlags (x .flags) s))) (pick (eqb (headOf s q) 0) (judgeStart q v s) (refuse 10 s)))
-    at true a z = record { fault = λ e. z; mem = λ e. refl; regs = λ e. refl; flags = λ e. refl; kinds = refl }
-    at false a z = pick-holds (Ruled _ _ s) (eqb (headOf s q) 0) _ _ (start-ruled q v s a z) (refuse-ruled _ _ s 10 (omega arith))
-
-class-ruled : (n v : ℕ) (s : World) → Ruled (registerFault (s .book .flags) (s .regs) n v) (written (s .book .flags) (s .regs) n v) s (judgeClass n v s)
+class-ruled : (n v : ℕ) (s : World) → Ruled (registerFault (s .state) n v) (written (s .state) n v) s (judgeClass n v s)
 unfolding judgeClass
 class-ruled n v s = at (ltb n (hdpClass + queues)) refl
   where
     at : (t : Bool) → ltb n (hdpClass + queues) ≡ t
-        → Ruled (registerFault (s .book .flags) (s .regs) n v) (written (s .book .flags) (s .regs) n v) s (pick t (judgeHead (n - hdpClass) v s) (judgeRegister n v s))
+        → Ruled (registerFault (s .state) n v) (written (s .state) n v) s (pick t (judgeHead (n - hdpClass) v s) (judgeRegister n v s))
     at true e =
-        let h = ltb-true n 2 e in
-        rw (sub-zero n, head-fault (s .book .flags) (s .regs) n v h, head-written (s .book .flags) (s .regs) n v h) (head-ruled n v s)
+        let h = ltb-true n (hdpClass + queues) e in
+        rw (head-fault (s .state) n v h, head-written (s .state) n v h) (head-ruled (n - hdpClass) v s (omega arith))
     at false e = register-ruled n v s
 
 -- ---- the controller carries it out
 
--- its rules are the book's where the flags and registers are
-pub registerWrite-carried : (n v : ℕ) (c : Controller) (m : List ℕ) (t : World) → registerFault (c .flags) (c .regs) n v ≡ 0 → m ≡ t .mem
-    → written (c .flags) (c .regs) n v .regs ≡ t .regs → written (c .flags) (c .regs) n v .flags ≡ t .book .flags → Carried (registerWrite n v c m) t
+-- an engine that begins changes no table
+begun-state : (n v : ℕ) (c : Controller) (m : List ℕ) → registerFault (c .state) n v ≡ 0
+    → (registerWrite n v c m .number ≡ 0) × (registerWrite n v c m .mem ≡ m) × (registerWrite n v c m .ctl .state ≡ written (c .state) n v)
 unfolding registerWrite
-registerWrite-carried n v c m t z e r f = rw z (record { number = refl; mem = e; regs = r; flags = f })
+begun-state n v c m z = rw z (refl, refl, refl)
+
+-- its rules are the guard's where the tables are alike
+registerWrite-carried : (n v : ℕ) (c : Controller) (m : List ℕ) (t : World) → registerFault (c .state) n v ≡ 0 → m ≡ t .mem
+    → Alike (t .state) (written (c .state) n v) → Carried (registerWrite n v c m) t
+registerWrite-carried n v c m t z e a =
+    let b = begun-state n v c m z in
+    record { number = b .0; mem = b .1 ∙ e; alike = rw (b .2) a }
 
 -- "all else takes effect": what the judge accepts is answered 0, and book and controller move together
 pub allowed : (a v : ℕ) (s : World) (c : Controller) → Agrees s c → length (s .mem) ≡ descBytes → numberOf (judge a v s .answer) ≡ 0
@@ -186,14 +290,15 @@ allowed a v s c g size z = at (eqb (a % 4) 0) refl z
     inside o w whole there e =
         let long : length (o .world .mem) ≡ descBytes = ap length (w .mem e) ∙ length-put (s .mem) k v ∙ size in
         rw (write-memory a v c (o .world .mem) long (g .defined) whole there)
-        (record { number = refl; mem = ap (λ (m : List ℕ). put m k v) (w .mem e) ∙ put-put-same (s .mem) k v v ∙ sym (w .mem e); regs = sym (g .regs) ∙ sym (w .regs e); flags = sym (g .flags) ∙ sym (w .flags e) })
+        (record { number = refl; mem = ap (λ (m : List ℕ). put m k v) (w .mem e) ∙ put-put-same (s .mem) k v v ∙ sym (w .mem e); alike = rw (w .state e) (g .alike) })
 
-    outside : (o : Outcome) → Ruled (registerFault (s .book .flags) (s .regs) (classAt a) v) (written (s .book .flags) (s .regs) (classAt a) v) s o
+    outside : (o : Outcome) → Ruled (registerFault (s .state) (classAt a) v) (written (s .state) (classAt a) v) s o
         → eqb (a % 4) 0 ≡ true → inDescriptors a ≡ false → numberOf (o .answer) ≡ 0 → Carried (unguardedWrite a v c (o .world .mem)) (o .world)
     outside o w whole there e =
         let long : length (o .world .mem) ≡ descBytes = ap length (w .mem e) ∙ size in
         rw (write-register a v c (o .world .mem) long (g .defined) whole there)
-        (registerWrite-carried (classAt a) v c (o .world .mem) (o .world) (rw (g .flags, g .regs) at (w .fault e)) refl (rw (g .flags, g .regs) at (sym (w .regs e))) (rw (g .flags, g .regs) at (sym (w .flags e))))
+        (registerWrite-carried (classAt a) v c (o .world .mem) (o .world) (sym (fault-alike (g .alike) (classAt a) v) ∙ w .fault e) refl
+        (alike-trans (w .state e (g .here)) (written-alike (g .alike) (g .here) (g .there) v (classAt a))))
 
     held : (t : Bool) → inDescriptors a ≡ t → eqb (a % 4) 0 ≡ true → numberOf (pick t (judgeWord k v s) (judgeClass (classAt a) v s) .answer) ≡ 0
         → Carried (unguardedWrite a v c (pick t (judgeWord k v s) (judgeClass (classAt a) v s) .world .mem)) (pick t (judgeWord k v s) (judgeClass (classAt a) v s) .world)

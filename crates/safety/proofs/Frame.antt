@@ -1,9 +1,9 @@
 -- What an engine's clause looks at: words 1 to 3 of its own queue. Assumes nothing.
 --     kept-part                       what the release leaves is a part of the queue
---     sendable-same, fillable-same               the same words: still to be fetched, in the same blocks
---     noEop-same, live-same, spot-same           and the same place in a packet
+--     sendable-same                   the same words: still to be fetched, in the same blocks
+--     noEop-same, live-same, spot-same   and the same place in a packet
 --     ready-map, through-map          and before and between packets
---     tx-same, rx-same                the clause of every phase
+--     tx-same                         the clause of every phase
 --     SameLength, fillable-new, rx-new   and where recorded lengths are others that agree
 use Prim.Native.Nat.{ℕ}
 use mathlib.Core.Path.{_≡_, refl, ap, _∙_}
@@ -50,9 +50,6 @@ fillable-new lens new w v ds b a s = record { fresh = fresh-same3 w v Buffer ds 
 
 pub lengths-same : (lens ds : List ℕ) → All (SameLength lens lens) ds
 lengths-same lens ds = all-every (SameLength lens lens) (λ d. refl) ds
-
-pub fillable-same : (lens : List ℕ) (w v : ℕ → ℕ) (ds : List ℕ) → All (Same3 w v) ds → Fillable lens w ds → Fillable lens v ds
-fillable-same lens w v ds a s = fillable-new lens lens w v ds (lengths-same lens ds) a s
 
 pub noEop-same : (w v : ℕ → ℕ) (ds : List ℕ) → All (Same3 w v) ds → All (NoEop w) ds → All (NoEop v) ds
 noEop-same w v [] a b = tt
@@ -143,6 +140,3 @@ module _ (w v : ℕ → ℕ) (L : List ℕ) (a : All (Same3 w v) L) where
         let l = spot-lengths (t .owned .spot) .1 in
         record { owned = owned-new (Fillable lens w) (Fillable new v) (t .owned) (λ k. fillable-new lens new w v (t .owned .spot .rs) l k (t .owned .todo)); short = t .short }
     rx-new h n (R.Done l) t = through-map (Fillable lens w) (Fillable new v) L h n (l .next) (fillable-new lens new w v L b a) t
-
-  pub rx-same : (lens : List ℕ) (h n : ℕ) (ph : Receiving) → RxInv lens w L h n ph → RxInv lens v L h n ph
-  rx-same lens h n ph t = rx-new lens lens (lengths-same lens L) h n ph t

@@ -1,8 +1,8 @@
 -- The invariant: what holds of guard and controller between any two operations. Assumes nothing: these are definitions.
--- All that is said of a queue is said of what the release would leave of it now (`leftT`, `leftR`); so what the book has not yet
--- seen of the controller's work needs no clause. Every pointer in a clause is `start` of a list.
+-- It is said of the machine itself, each clause for a queue number: queue 2·c transmits on channel c, queue 2·c + 1 receives there.
+-- All that is said of a queue is said of what the release would leave of it now (`leftOf`); so what the book has not yet seen of the
+-- controller's work needs no clause. Every pointer in a clause is `start` of a list.
 --     Fit m                      descriptor memory is 8,192 bytes
---     Held s                     both queues: links, words in use, recorded lengths
 --     Sendable, Fillable         descriptors still to be fetched: fresh, and in blocks of Linux; fresh, and as long as recorded
 --     Long lens w ds             each receive length is the recorded one
 --     Roomy K lens w ds          receive buffers at their recorded lengths lie in Linux data
@@ -12,10 +12,17 @@
 --     Owned F w L first h n l    a packet with its last descriptor marked, before OWNER is cleared: both sides
 --     Through F L h n l          between steps 5 and 6: L is what the next leads to
 --     TxInv, RxInv               the clause of each phase
+--     Phase, phaseOf c q         the phase of the engine of queue q, of either side
+--     idle, Serves               whether it is idle; its clause
+--     Post, postOf s q           a queue's registers and flags, and the teardown step that comes next
+--     Common, commonOf s         reset, its bit and the marks, in book and controller
+--     leftOf s qs q              what the release would leave of queue q
+--     Table t, Sized s           tables of their size, whose flags are flags
+--     Held s qs                  all queues: heads, links, words in use, recorded lengths
 --     Shared c                   reset and marks: the book's, through the release's own rules, are the controller's
---     Turn c p mark idle         teardown of one queue, likewise
---     Good v, Inv s              the invariant of a view, and of a machine
-use Prim.Native.Nat.{ℕ, _+_, _≤_}
+--     Turn c p idle              teardown of one queue, likewise
+--     Inv s                      the invariant
+use Prim.Native.Nat.{ℕ, _+_, _≤_, _<_, _^_}
 use mathlib.Core.Path.{_≡_}
 use mathlib.Core.Bool.{Bool, true, false, not}
 use mathlib.Core.List.{List, [], _∷_, _++_}
@@ -23,7 +30,9 @@ use mathlib.Core.Logic.{_⊎_, _≢_}
 use lib.ListN.{length, getD}
 use lib.Dec.{eqb}
 use Rattle.layout.specs.Choice.{pick, both}
-use Rattle.layout.specs.Layout.{descBytes, lengthMax, addressEnd, goodPtr, addr}
+use Rattle.layout.specs.Bits.{bit}
+use Rattle.layout.specs.Layout.{descBytes, lengthMax, addressEnd, goodPtr, addr, channels as channelCount, queues, marks as markCount, sideOf, channelOf}
+use Rattle.layout.specs.declared.Side.{Side}
 use Rattle.layout.specs.declared.Side.the-variants.{Transmit, Receive}
 use Rattle.words.specs.Word.{word}
 use Rattle.words.proofs.WordLaws.{Bytes}
@@ -33,10 +42,14 @@ use Rattle.blocks.specs.declared.Room.the-variants.{Free}
 use Rattle.descriptor.specs.Fields.{eop, eoq, lengthOf}
 use Rattle.descriptor.specs.declared.Place.{Place}
 use Rattle.descriptor.specs.declared.Place.the-variants.{Start, Middle, Buffer}
-use Rattle.registers.specs.Pending.{tornDown}
-use Rattle.queue.specs.Queue.{start, All, Linked, Sole, Recorded, Fresh}
+use Rattle.registers.specs.Table.{stateWords, resetAt, headOf, hdpOf, cpOf, marksOf, tearingsOf, tearingOf, awaiting, resetOf, bitOf}
+use Rattle.registers.specs.Rules.{teardownDone}
+use Rattle.book.specs.declared.Mode.{Mode}
+use Rattle.book.specs.declared.Mode.the-variants as Modes
+use Rattle.queue.specs.Queue.{start, All, Linked, Sole, Recorded, Fresh, flat, receiving, kept}
 use Rattle.queue.specs.Queue as queue
 use Rattle.queue.proofs.KeptLaws.{NoEop, Live}
+use Rattle.queue.proofs.NumberLaws.{queueAt}
 use Rattle.phases.specs.declared.Packet.{Packet}
 use Rattle.phases.specs.declared.Reading.{Reading}
 use Rattle.phases.specs.declared.Closing.{Closing}
@@ -48,22 +61,15 @@ use Rattle.phases.specs.declared.Filled.{Filled}
 use Rattle.phases.specs.declared.Stored.{Stored}
 use Rattle.phases.specs.declared.Receiving.{Receiving}
 use Rattle.phases.specs.declared.Receiving.the-variants as R
+use Rattle.controller.specs.declared.Controller.{Controller}
+use Rattle.controller.specs.Controller.{txOf, rxOf, stageOf}
 use Rattle.machine.specs.Machine.{Machine}
-use Rattle.safety.proofs.View.{Post, Common, Store, View, build, marksOf, waiting, wordsOf, leftT, leftR}
 
--- ---- memory and queues
+-- ---- memory
 
 pub record Fit (m : List ℕ) : Type 0 where
   pub size : length m ≡ descBytes
   pub bytes : Bytes m
-
-pub record Held (s : Store) : Type 0 where
-  pub fit : Fit (s .mem)
-  pub kinds : fitKinds (s .kinds) ≡ true
-  pub linkT : Linked (word (s .mem)) (s .qt)
-  pub linkR : Linked (word (s .mem)) (s .qr)
-  pub sole : Sole (s .used) (s .qt ++ s .qr)
-  pub recorded : Recorded (s .lens) (s .qr)
 
 -- ---- what is still to be fetched
 
@@ -235,40 +241,142 @@ idleRx (R.Last s) = false
 idleRx (R.First s) = false
 idleRx (R.Done l) = false
 
--- ---- reset, marks, teardown: what the book lags behind is what the release's first two rules take away
+-- ---- the engine of a queue, of either side
 
+pub data Phase : Type 0 where
+  sending : Sending → Phase
+  taking : Receiving → Phase
+
+abbrev pub phaseBy : Side → Controller → ℕ → Phase
+phaseBy Transmit c ch = sending (txOf c ch)
+phaseBy Receive c ch = taking (rxOf c ch)
+
+abbrev pub phaseOf : Controller → ℕ → Phase
+phaseOf c q = phaseBy (sideOf q) c (channelOf q)
+
+abbrev pub idle : Phase → Bool
+idle (sending ph) = idleTx ph
+idle (taking ph) = idleRx ph
+
+-- its clause, over what is left of its queue
+abbrev pub Serves : List ℕ → List ℕ → (ℕ → ℕ) → List ℕ → ℕ → ℕ → Phase → Type 0
+Serves K lens w L h n (sending ph) = TxInv K w L h n ph
+Serves K lens w L h n (taking ph) = RxInv lens w L h n ph
+
+-- what stands still to be used before it
+abbrev pub Todo : Side → List ℕ → List ℕ → (ℕ → ℕ) → List ℕ → Type 0
+Todo Transmit K lens w L = Sendable K w Start L
+Todo Receive K lens w L = Fillable lens w L
+
+-- the blocks of what is left of a receive queue
+abbrev pub RoomIn : Side → List ℕ → List ℕ → (ℕ → ℕ) → List ℕ → Type 0
+RoomIn Transmit K lens w L = Unit
+RoomIn Receive K lens w L = Roomy K lens w L
+
+-- ---- what is read off a machine
+
+pub record Post : Type 0 where
+  pub hdp : ℕ
+  pub cp : ℕ
+  pub stage : ℕ
+  pub mark : Bool
+  pub booked : Bool
+  pub tearing : Bool
+
+-- `mark` is that of its HDP; teardown is pending: in the book (`booked`), in the controller (`tearing`)
+abbrev pub postOf : Machine → ℕ → Post
+postOf s q = record {
+  hdp = hdpOf (s .ctl .state) q;
+  cp = cpOf (s .ctl .state) q;
+  stage = stageOf (s .ctl) q;
+  mark = bit q (marksOf (s .ctl .state));
+  booked = tearingOf (s .state) q;
+  tearing = tearingOf (s .ctl .state) q;
+}
+
+pub record Common : Type 0 where
+  pub bit : Bool
+  pub reset : Bool
+  pub marks : ℕ
+  pub waits : Bool
+  pub bookReset : Bool
+  pub bookMarks : ℕ
+
+-- `waits`: one of the registers is not yet zeroed
+abbrev pub commonOf : Machine → Common
+commonOf s = record {
+  bit = bitOf (s .ctl .state);
+  reset = resetOf (s .ctl .state);
+  marks = marksOf (s .ctl .state);
+  waits = awaiting (s .ctl .state);
+  bookReset = resetOf (s .state);
+  bookMarks = marksOf (s .state);
+}
+
+-- a reset that the book still has as pending is over
 abbrev pub over : Common → Bool
 over c = both (c .bookReset) (not (c .bit))
 
+abbrev pub wordsOf : Machine → ℕ → ℕ
+wordsOf s = word (s .mem)
+
+-- how the release would begin
+abbrev pub modeOf : Machine → Mode
+modeOf s = pick (over (commonOf s)) Modes.All Modes.Head
+
+abbrev pub leftOf : Machine → List (List ℕ) → ℕ → List ℕ
+leftOf s qs q = kept (wordsOf s) (modeOf s) (queueAt qs q)
+
+-- ---- tables, queues
+
+pub record Table (t : List ℕ) : Type 0 where
+  pub size : length t ≡ stateWords
+  pub marks : marksOf t < 2 ^ markCount
+  pub tearings : tearingsOf t < 2 ^ queues
+  pub reset : getD t resetAt 0 ≤ 1
+
+pub record Sized (s : Machine) : Type 0 where
+  pub book : Table (s .state)
+  pub ctl : Table (s .ctl .state)
+  pub stages : length (s .ctl .stages) ≡ queues
+  pub channels : length (s .ctl .channels) ≡ channelCount
+
+pub record Held (s : Machine) (qs : List (List ℕ)) : Type 0 where
+  pub fit : Fit (s .mem)
+  pub kinds : fitKinds (s .kinds) ≡ true
+  pub many : length qs ≡ queues
+  pub heads : (q : ℕ) → q < queues → headOf (s .state) q ≡ start (queueAt qs q)
+  pub linked : (q : ℕ) → Linked (wordsOf s) (queueAt qs q)
+  pub sole : Sole (s .used) (flat qs)
+  pub recorded : Recorded (s .lens) (receiving qs)
+
+-- ---- reset, marks, teardown: what the book lags behind is what the release's first two rules take away
+
 pub record Shared (c : Common) : Type 0 where
   pub resets : pick (over c) false (c .bookReset) ≡ c .reset
-  pub marks : pick (over c) (false ∷ false ∷ false ∷ false ∷ []) (c .bookMarks) ≡ marksOf c
+  pub marks : pick (over c) 0 (c .bookMarks) ≡ c .marks
   pub bits : c .bit ≡ c .reset
-  pub ready : c .reset ≡ true → waiting c ≡ false
+  pub ready : c .reset ≡ true → c .waits ≡ false
 
--- one queue: mark is that of its HDP, idle says that its engine is
-pub record Turn (c : Common) (p : Post) (mark idle : Bool) : Type 0 where
-  pub settles : pick (eqb (p .cp) tornDown) false (p .booked) ≡ p .torn
-  pub young : p .torn ≡ true → p .cp ≢ tornDown
-  pub stage : p .torn ≡ false → p .stage ≡ 1
-  pub lasts : p .booked ≡ true → p .torn ≡ false → idle ≡ true
-  pub alone : c .reset ≡ true → p .torn ≡ false
-  pub ready : p .torn ≡ true → waiting c ≡ false
-  pub asleep : waiting c ≡ true → idle ≡ true
-  pub zeroed : mark ≡ true → idle ≡ true → p .hdp ≡ 0
+-- one queue; rests says that its engine is idle
+pub record Turn (c : Common) (p : Post) (rests : Bool) : Type 0 where
+  pub settles : pick (eqb (p .cp) teardownDone) false (p .booked) ≡ p .tearing
+  pub young : p .tearing ≡ true → p .cp ≢ teardownDone
+  pub stage : p .tearing ≡ false → p .stage ≡ 1
+  pub lasts : p .booked ≡ true → p .tearing ≡ false → rests ≡ true
+  pub alone : c .reset ≡ true → p .tearing ≡ false
+  pub ready : p .tearing ≡ true → c .waits ≡ false
+  pub asleep : c .waits ≡ true → rests ≡ true
+  pub zeroed : p .mark ≡ true → rests ≡ true → p .hdp ≡ 0
 
 -- ---- all together
 
-pub record Good (v : View) : Type 0 where
-  pub held : Held (v .store)
-  pub shared : Shared (v .common)
-  pub turnT : Turn (v .common) (v .t) (v .common .m0) (idleTx (v .tx))
-  pub turnR : Turn (v .common) (v .r) (v .common .m1) (idleRx (v .rx))
-  pub tx : TxInv (v .store .kinds) (wordsOf v) (leftT v) (v .t .hdp) (v .t .stage) (v .tx)
-  pub rx : RxInv (v .store .lens) (wordsOf v) (leftR v) (v .r .hdp) (v .r .stage) (v .rx)
-  pub room : Roomy (v .store .kinds) (v .store .lens) (wordsOf v) (leftR v)
-
 pub record Inv (s : Machine) : Type 0 where
-  pub view : View
-  pub is : s ≡ build view
-  pub good : Good view
+  pub qs : List (List ℕ)
+  pub sized : Sized s
+  pub defined : s .ctl .undefined ≡ false
+  pub held : Held s qs
+  pub shared : Shared (commonOf s)
+  pub turn : (q : ℕ) → q < queues → Turn (commonOf s) (postOf s q) (idle (phaseOf (s .ctl) q))
+  pub engine : (q : ℕ) → q < queues → Serves (s .kinds) (s .lens) (wordsOf s) (leftOf s qs q) (postOf s q .hdp) (postOf s q .stage) (phaseOf (s .ctl) q)
+  pub room : (q : ℕ) → q < queues → RoomIn (sideOf q) (s .kinds) (s .lens) (wordsOf s) (leftOf s qs q)

@@ -1,11 +1,10 @@
 -- A kind change keeps the invariant: "18, 19, 20, then 21 if the new kind is not 1 and a receive buffer in the book, at its
 -- handed-over length, touches the block". Ownership never changes, so that what was judged for transmission stays so.
 -- Assumes nothing.
---     sendable-kind, tx-kind   a block that stays Linux's changes its kind: what is to be sent, and the transmit engine's clause
+--     sendable-kind, serves-kind   a block that stays Linux's changes its kind: what is to be sent, and an engine's clause
 --     Changed b k s            what an accepted kind change has asked
 --     KindOutcome, judgeKind-changed   and it has; the world that it leaves
---     setKindsOf               the view with other kinds
---     kind-calm                a released view stays one
+--     kind-calm                a released machine stays one
 --     isOwned kinds i          block i is Linux's
 --     ownership-kept           no operation changes whose a block is
 use Prim.Native.Nat.{ℕ, _≤_, _<_}
@@ -19,8 +18,10 @@ use lib.Seq.{getD-set-same, getD-set-other}
 use lib.Dec.{eqb, ltb, leb}
 use borrow.Author.Tests.{ne-eqb, eqb-true, eqb-false, ltb-true, leb-true}
 use Rattle.layout.specs.Choice.{pick, both}
-use Rattle.layout.proofs.ChoiceLaws.{both-left, both-right}
-use Rattle.layout.specs.declared.Side.the-variants.{Transmit}
+use Rattle.layout.specs.Layout.{sideOf}
+use Rattle.layout.specs.declared.Side.{Side}
+use Rattle.layout.specs.declared.Side.the-variants.{Transmit, Receive}
+use Rattle.layout.proofs.ChoiceLaws.{pick-holds, both-left, both-right}
 use Rattle.words.specs.Word.{word}
 use Rattle.blocks.specs.Room.{permits}
 use Rattle.blocks.proofs.KindLaws.{set-keeps-fitKinds}
@@ -28,22 +29,25 @@ use Rattle.blocks.proofs.RoomLaws.{room-set-permits}
 use Rattle.descriptor.specs.declared.Place.{Place}
 use Rattle.descriptor.specs.declared.Place.the-variants.{Start, Middle}
 use Rattle.descriptor.specs.Rules.{sideAt}
-use Rattle.registers.specs.Pending.{some}
 use Rattle.book.specs.World.{World, setKinds, unfit, soundWorld, release}
+use Rattle.queue.specs.Queue.{All}
+use Rattle.queue.proofs.RecordLaws.{Fits}
 use Rattle.queue.proofs.RoomyLaws.{fresh-some, roomy-kind, room-now-kind}
+use Rattle.queue.proofs.NumberLaws.{queueAt}
+use Rattle.queue.proofs.SetLaws.{part-receiving}
 use Rattle.guard.specs.declared.Effect.the-variants.{Plain}
 use Rattle.guard.specs.Answers.{numberOf, Outcome, accept, refuse}
 use Rattle.guard.specs.Judges.{judge}
-use Rattle.guard.specs.Guard.{inReception, judgeKind, admitted, guestWrite, kindChange}
+use Rattle.guard.specs.Guard.{admitted, guestWrite}
+use Rattle.kinds.specs.Kinds.{inReception, judgeKind, kindChange}
 use Rattle.phases.specs.declared.Sending.{Sending}
 use Rattle.phases.specs.declared.Sending.the-variants as S
 use Rattle.controller.specs.Controller.{unguardedWrite}
-use Rattle.machine.specs.Machine.{Machine, Happened, worldOf, carriedOut, Op, write, kind, frame, step, apply, applyWrite, applyKind, applyFrame, applyStep}
-use Rattle.safety.proofs.View.{View, wordsOf}
-use Rattle.safety.proofs.Inv.{Sendable, placeAfter, Fetched, TxInv}
+use Rattle.machine.specs.Machine.{Machine, Happened, worldOf, withWorld, carriedOut, Op, write, kind, frame, step, apply, applyWrite, applyKind, applyFrame, applyStep}
+use Rattle.safety.proofs.Inv.{Sendable, placeAfter, Fetched, TxInv, Phase, sending, taking, phaseOf, Serves, RoomIn, postOf, wordsOf}
 use Rattle.safety.proofs.Frame.{ready-map, through-map}
-use Rattle.safety.proofs.Calm.{Calm}
-use Rattle.safety.proofs.Refusals.{pick-holds, release-kinds, Verdict, kind-verdict}
+use Rattle.safety.proofs.Calm.{Calm, bookOf}
+use Rattle.safety.proofs.Refusals.{release-kinds, Verdict, kind-verdict}
 use Rattle.safety.proofs.Allowed.{judge-kinds}
 
 -- ---- kinds: "Kinds 1 to 4 are owned by Linux"
@@ -68,7 +72,7 @@ module _ (K : List ℕ) (b k : ℕ) (own : permits Transmit k ≡ true) (w : ℕ
     clean = f .clean;
   }
 
-  pub tx-kind : (L : List ℕ) (h n : ℕ) (ph : Sending) → TxInv K w L h n ph → TxInv (set K b k) w L h n ph
+  tx-kind : (L : List ℕ) (h n : ℕ) (ph : Sending) → TxInv K w L h n ph → TxInv (set K b k) w L h n ph
   tx-kind L h n S.Idle t = t
   tx-kind L h n S.New t = ready-map (Sendable K w Start) (Sendable (set K b k) w Start) L h n (sendable-kind Start L refl) t
   tx-kind L h n (S.Within p) t = record { spot = t .spot; todo = sendable-kind (Middle (p .word3) (p .sum)) (t .spot .d ∷ t .spot .rs) refl (t .todo) }
@@ -94,6 +98,10 @@ module _ (K : List ℕ) (b k : ℕ) (own : permits Transmit k ≡ true) (w : ℕ
   }
   tx-kind L h n (S.Done l) t = through-map (Sendable K w Start) (Sendable (set K b k) w Start) L h n (l .next) (sendable-kind Start L refl) t
 
+  serves-kind : (lens L : List ℕ) (h n : ℕ) (ph : Phase) → Serves K lens w L h n ph → Serves (set K b k) lens w L h n ph
+  serves-kind lens L h n (sending ph) t = tx-kind L h n ph t
+  serves-kind lens L h n (taking ph) t = t
+
 -- ---- what an accepted kind change has asked
 
 pub record Changed (b k : ℕ) (s : World) : Type 0 where
@@ -110,10 +118,6 @@ pub record KindOutcome (b k : ℕ) (s : World) (o : Outcome) : Type 0 where
 
 refuse-kind : (b k : ℕ) (s : World) (n : ℕ) → n ≢ 0 → KindOutcome b k s (refuse n s)
 refuse-kind b k s n h = record { changed = λ e. absurd (h e); world = λ e. absurd (h e) }
-
-both-one : (t : Bool) → both t true ≡ t
-both-one true = refl
-both-one false = refl
 
 pick-one : (t : Bool) → pick t true false ≡ t
 pick-one true = refl
@@ -143,46 +147,42 @@ judgeKind-changed b k s = at _ _ _ _ refl refl refl refl
       world = λ e. refl;
     }
 
--- ---- a released view stays one
-
-abbrev pub setKindsOf : List ℕ → View → View
-setKindsOf kinds u = record {
-  store = record { mem = u .store .mem; kinds = kinds; used = u .store .used; lens = u .store .lens; qt = u .store .qt; qr = u .store .qr };
-  t = u .t;
-  r = u .r;
-  common = u .common;
-  tx = u .tx;
-  rx = u .rx;
-  sent = u .sent;
-  received = u .received;
-}
+-- ---- a released machine stays one
 
 -- "19 new kind not 1..4": every new kind is Linux's
 kind-owned : (k : ℕ) → 1 ≤ k → permits Transmit k ≡ true
 kind-owned k h = simp (ne-eqb k 0 (λ e. omega arith))
 
-pub kind-calm : (u : View) → Calm u → (b k : ℕ) → 1 ≤ k → k ≤ 4 → both (not (eqb k 1)) (inReception (wordsOf u) (u .store .lens) b) ≡ false
-    → Calm (setKindsOf (set (u .store .kinds) b k) u)
-kind-calm u c b k low high clear =
-    let s = u .store in
-    let h = c .held in
-    record {
-      held = record {
-        fit = h .fit;
-        kinds = set-keeps-fitKinds (s .kinds) b k high (h .kinds);
-        linkT = h .linkT;
-        linkR = h .linkR;
-        sole = h .sole;
-        recorded = h .recorded;
-      };
-      bits = c .bits;
-      ready = c .ready;
-      dutyT = c .dutyT;
-      dutyR = c .dutyR;
-      tx = tx-kind (s .kinds) b k (kind-owned k low) (wordsOf u) (s .qt) (u .t .hdp) (u .t .stage) (u .tx) (c .tx);
-      rx = c .rx;
-      room = room-now-kind (s .kinds) (s .lens) (wordsOf u) b k (s .qr) clear (h .recorded .there) (c .room);
-    }
+-- the blocks of a queue that receives
+room-kind : (side : Side) (K lens : List ℕ) (w : ℕ → ℕ) (b k : ℕ) (ds : List ℕ) → both (not (eqb k 1)) (inReception w lens b) ≡ false
+    → (side ≡ Receive → All (λ d. Fits (getD lens d 0)) ds) → RoomIn side K lens w ds → RoomIn side (set K b k) lens w ds
+room-kind Transmit K lens w b k ds clear f r = tt
+room-kind Receive K lens w b k ds clear f r = room-now-kind K lens w b k ds clear (f refl) r
+
+pub kind-calm : (s : Machine) → Calm s → (b k : ℕ) → 1 ≤ k → k ≤ 4 → both (not (eqb k 1)) (inReception (wordsOf s) (s .lens) b) ≡ false
+    → Calm (withWorld (setKinds (set (s .kinds) b k) (bookOf s)) s)
+kind-calm s c b k low high clear = record {
+  qs = c .qs;
+  sized = record { book = c .sized .book; ctl = c .sized .ctl; stages = c .sized .stages; channels = c .sized .channels };
+  defined = c .defined;
+  held = record {
+    fit = c .held .fit;
+    kinds = set-keeps-fitKinds (s .kinds) b k high (c .held .kinds);
+    many = c .held .many;
+    heads = c .held .heads;
+    linked = c .held .linked;
+    sole = c .held .sole;
+    recorded = c .held .recorded;
+  };
+  marks = c .marks;
+  tearings = c .tearings;
+  resets = c .resets;
+  bits = c .bits;
+  ready = c .ready;
+  duty = c .duty;
+  engine = λ q l. serves-kind (s .kinds) b k (kind-owned k low) (wordsOf s) (s .lens) (queueAt (c .qs) q) (postOf s q .hdp) (postOf s q .stage) (phaseOf (s .ctl) q) (c .engine q l);
+  room = λ q l. room-kind (sideOf q) (s .kinds) (s .lens) (wordsOf s) b k (queueAt (c .qs) q) clear (λ e. part-receiving (λ d. Fits (getD (s .lens) d 0)) q (c .qs) e (c .held .recorded .there)) (c .room q l);
+}
 
 -- ---- whose a block is: "Kinds 1 to 4 are owned by Linux"
 

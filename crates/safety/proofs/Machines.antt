@@ -1,193 +1,213 @@
 -- Frames, steps and fresh machines: the operations of the controller alone, and where a sequence begins. Assumes nothing.
---     Kept o v                operation o on the machine of a view is safe, and leaves the invariant
+--     Kept o s                operation o on machine s is safe, and leaves the invariant
 --     inv-defined             where the invariant holds the controller is defined
+--     phase-stands            the record with another phase of one queue
+--     waits-is, taken         an engine that waits takes a frame, on any channel
 --     frame-kept, step-kept   a frame; the step of any engine
 --     fresh-inv               a fresh machine
-use Prim.Native.Nat.{ℕ, zero, suc, _≤_}
+use Prim.Native.Nat.{ℕ, _≤_, _<_}
 use mathlib.Core.Path.{_≡_, refl, ap, _∙_, sym}
 use mathlib.Core.Bool.{Bool, true, false, not}
 use mathlib.Core.List.{List, [], _∷_}
 use mathlib.Core.Logic.{_⊎_, inl, inr, _≢_}
 use native.Mathlib.Omega.{arith}
-use lib.ListN.{length, getD, replicate, length-replicate}
-use lib.Dec.{eqb, leb}
-use borrow.Author.Tests.{eq-eqb, leb-true}
+use lib.ListN.{length, replicate, length-replicate}
+use lib.Dec.{eqb, leb, ltb}
+use borrow.Author.Tests.{eq-eqb, leb-true, ltb-true}
 use Rattle.layout.specs.Choice.{pick, both}
-use Rattle.layout.specs.Layout.{lengthMax, descBytes, descWords}
-use Rattle.layout.specs.declared.Side.the-variants.{Receive}
-use Rattle.layout.proofs.ChoiceLaws.{clash, both-left, both-right}
+use Rattle.layout.specs.Bits.{bit}
+use Rattle.layout.specs.Layout.{lengthMax, descBytes, descWords, channels, queues, sideOf, queueOf}
+use Rattle.layout.specs.declared.Side.the-variants as Sides
+use Rattle.layout.proofs.ChoiceLaws.{clash, by-pick, both-left, both-right}
 use Rattle.words.specs.WordSet.{emptySet}
 use Rattle.blocks.specs.Kinds.{fitKinds}
-use Rattle.queue.specs.Queue.{start, Linked, Recorded}
+use Rattle.registers.specs.Table.{stateWords, hdpAt, cpAt, flagsFit, hdpOf, tearingOf, awaiting, resetOf, bitOf}
+use Rattle.registers.proofs.TableLaws.{bit-none}
+use Rattle.queue.specs.Queue.{start, Linked, Recorded, kept}
 use Rattle.queue.proofs.SoleLaws.{sole-empty}
 use Rattle.queue.proofs.RecordLaws.{recorded-empty}
-use Rattle.queue.proofs.KeptLaws.{kept-linked}
 use Rattle.queue.proofs.FreshLaws.{fresh-live}
-use Rattle.guard.specs.Answers.{numberOf}
+use Rattle.queue.proofs.NumberLaws.{getD-same}
+use Rattle.guard.specs.Answers.{numberOf, answerTo}
 use Rattle.phases.specs.declared.Receiving.{Receiving}
 use Rattle.phases.specs.declared.Receiving.the-variants as R
-use Rattle.phases.specs.declared.Sending.the-variants as S
+use Rattle.phases.specs.declared.Frame.{Frame}
+use Rattle.phases.specs.declared.Engine.{Engine}
+use Rattle.phases.specs.declared.Engine.the-variants.{Reset, Transmit, Receive, TearTransmit, TearReceive}
 use Rattle.phases.specs.Quiet.{waits}
-use Rattle.controller.specs.declared.Engine.{Engine}
-use Rattle.controller.specs.declared.Engine.the-variants.{Reset, Transmit, Receive as Taking, TearTransmit, TearReceive}
-use Rattle.controller.specs.Controller.{Moved, unlessUndefined, stepOf, held, Framed, frameOf, freshController}
+use Rattle.controller.specs.Controller.{Moved, idleChannel, rxOf, setRx, unlessUndefined, onChannel, stepOf, held, Framed, frameOf, freshController}
 use Rattle.machine.specs.Machine.{Machine, Op, frame, step, apply, answerOf, withCtl, applyFrame, applyStep, freshMachine}
 use Rattle.safety.specs.Statement.{Safe}
-use Rattle.safety.proofs.View.{Post, Common, View, build, ctlOf, wordsOf, modeOf, leftR, setRegs, takes}
-use Rattle.safety.proofs.Inv.{Fillable, Ready, RxInv, idleRx, Turn, Good, Inv}
+use Rattle.safety.proofs.Inv.{Fillable, Ready, Phase, sending, taking, phaseOf, Post, postOf, Common, commonOf, wordsOf, modeOf, leftOf, Table, Shared, Turn, Inv}
 use Rattle.safety.proofs.Ends.{top-start}
-use Rattle.safety.proofs.Touch.{Fine, turn-move, moveR}
+use Rattle.safety.proofs.Marks.{side-queue, channel-queue, queue-lt, phase-queue}
+use Rattle.safety.proofs.Touch.{Sided, setPhase, phase-here, fits-table, near-self, near-phase, Stands, shared-of, turn-of, move-near, Fine}
+use Rattle.safety.proofs.LastSteps.{left-linked}
 use Rattle.safety.proofs.TransmitSteps.{transmit-fine}
 use Rattle.safety.proofs.ReceiveSteps.{receive-fine}
-use Rattle.safety.proofs.Teardown.{tear-transmit, tear-receive, reset-fine}
+use Rattle.safety.proofs.Teardown.{stays-fine, tear-fine, AtRest, all-rest, no-room, reset-fine}
 
-pub record Kept (o : Op) (v : View) : Type 0 where
-  pub safe : Safe o (build v)
-  pub inv : Inv (apply o (build v) .machine)
+pub record Kept (o : Op) (s : Machine) : Type 0 where
+  pub safe : Safe o s
+  pub inv : Inv (apply o s .machine)
 
 pub inv-defined : {s : Machine} → Inv s → s .ctl .undefined ≡ false
-inv-defined i = ap (λ (s : Machine). s .ctl .undefined) (i .is)
+inv-defined i = i .defined
+
+-- a number as an answer
+answered : (n : ℕ) → n ≢ 22 → numberOf (answerOf n) ≢ 22
+unfolding answerTo
+answered n h = by-pick (λ a. numberOf a ≢ 22) (eqb n 0) _ _ (λ e. omega arith) (λ e. h)
 
 -- ---- a frame
 
-module _ (v : View) (g : Good v) where
-  -- the engine waits: it stands before its queue
-  waits-ready : (ph : Receiving) → waits ph ≡ true → RxInv (v .store .lens) (wordsOf v) (leftR v) (v .r .hdp) (v .r .stage) ph
-      → Turn (v .common) (v .r) (v .common .m1) (idleRx ph)
-      → Ready (Fillable (v .store .lens) (wordsOf v)) (leftR v) (v .r .hdp) (v .r .stage) × Turn (v .common) (v .r) (v .common .m1) false
-  waits-ready R.Idle e i t = clash e refl
-  waits-ready R.Wait e i t = (i, t)
-  waits-ready (R.Fetch f) e i t = clash e refl
-  waits-ready (R.Moving s) e i t = clash e refl
-  waits-ready (R.Ended x) e i t = clash e refl
-  waits-ready (R.Last s) e i t = clash e refl
-  waits-ready (R.First s) e i t = clash e refl
-  waits-ready (R.Done l) e i t = clash e refl
+-- the record with another phase of queue q
+phase-stands : (s : Machine) → Inv s → (q : ℕ) → q < queues → (ph : Phase) → Sided q ph → Stands s (setPhase q ph (s .ctl)) q (postOf s q) ph
+phase-stands s i q l ph o = record {
+  near = near-phase (near-self q (i .sized)) l ph o;
+  post = at ph;
+  phase = phase-here (s .ctl) q (omega (arith, i .sized .channels)) ph o;
+}
+  where
+    at : (ph : Phase) → postOf (withCtl (setPhase q ph (s .ctl)) (s .mem) s) q ≡ postOf s q
+    at (sending ph) = refl
+    at (taking ph) = refl
 
-  taken : (n : ℕ) → 1 ≤ n → n ≤ lengthMax → v .r .torn ≡ false → Turn (v .common) (v .r) (v .common .m1) false
-      → Ready (Fillable (v .store .lens) (wordsOf v)) (leftR v) (v .r .hdp) (v .r .stage)
-      → Good (takes (v .store .mem) (setRegs (v .r .hdp) (v .r .cp) (v .r)) (R.Fetch (record { first = v .r .hdp; stored = 0; left = n })) (v .received) v)
-  taken n one most calm t r = at (r .state)
+waits-is : (ph : Receiving) → waits ph ≡ true → ph ≡ R.Wait
+waits-is R.Idle e = clash e refl
+waits-is R.Wait e = refl
+waits-is (R.Fetch f) e = clash e refl
+waits-is (R.Moving s) e = clash e refl
+waits-is (R.Ended x) e = clash e refl
+waits-is (R.Last s) e = clash e refl
+waits-is (R.First s) e = clash e refl
+waits-is (R.Done l) e = clash e refl
+
+-- a frame of n bytes that is taken on channel ch
+module _ (s : Machine) (i : Inv s) (ch : ℕ) (there : ch < channels) (n : ℕ) (one : 1 ≤ n) (most : n ≤ lengthMax) where
+  abbrev q : ℕ
+  q = queueOf Sides.Receive ch
+
+  abbrev here : Post
+  here = postOf s q
+
+  abbrev L : List ℕ
+  L = leftOf s (i .qs) q
+
+  abbrev coming : Frame
+  coming = record { first = here .hdp; stored = 0; left = n }
+
+  taken : waits (rxOf (s .ctl) ch) ≡ true → here .tearing ≡ false → Inv (withCtl (setRx ch (R.Fetch coming) (s .ctl)) (s .mem) s)
+  taken e calm = at (ready .state)
     where
-      w : ℕ → ℕ
-      w = wordsOf v
+      l : q < queues
+      l = queue-lt Sides.Receive ch there
 
-      L : List ℕ
-      L = leftR v
+      phase : phaseOf (s .ctl) q ≡ taking R.Wait
+      phase = phase-queue Sides.Receive (s .ctl) ch ∙ ap (λ (x : Receiving). taking x) (waits-is (rxOf (s .ctl) ch) e)
 
-      h : ℕ
-      h = v .r .hdp
+      turn : Turn (commonOf s) here false
+      turn = rw phase at (i .turn q l)
 
-      at : ((v .r .stage ≡ 1) × (start L ≡ h) × Fillable (v .store .lens) w L) ⊎ ((v .r .stage ≡ 2) × (L ≡ []))
-          → Good (takes (v .store .mem) (setRegs h (v .r .cp) (v .r)) (R.Fetch (record { first = h; stored = 0; left = n })) (v .received) v)
-      at (inr x) = absurd (omega (arith, t .stage calm, x .0))
+      ready : Ready (Fillable (s .lens) (wordsOf s)) L (here .hdp) (here .stage)
+      ready = rw phase at (i .engine q l)
+
+      at : ((here .stage ≡ 1) × (start L ≡ here .hdp) × Fillable (s .lens) (wordsOf s) L) ⊎ ((here .stage ≡ 2) × (L ≡ []))
+          → Inv (withCtl (setRx ch (R.Fetch coming) (s .ctl)) (s .mem) s)
+      at (inr x) = absurd (omega (arith, turn .stage calm, x .0))
       at (inl x) =
-          let q = top-start L (rw (x .1) (r .good)) in
-          let lk : Linked w (q .f ∷ q .fs) = rw (q .is) at (kept-linked w (modeOf v) (v .store .qr) (g .held .linkR)) in
-          moveR v g (setRegs h (v .r .cp) (v .r)) (R.Fetch (record { first = h; stored = 0; left = n })) (v .received) (turn-move t h false (λ m e. clash e refl))
+          let w = wordsOf s in
+          let k = top-start L (rw (x .1) (ready .good)) in
+          let lk : Linked w (k .f ∷ k .fs) = rw (k .is) at (left-linked s i q) in
+          rw (channel-queue Sides.Receive ch) at
+          (move-near s i q l (phase-stands s i q l (taking (R.Fetch coming)) (side-queue Sides.Receive ch)) turn
           (record {
             spot = record {
               cs = [];
-              d = q .f;
-              rs = q .fs;
-              split = q .is;
+              d = k .f;
+              rs = k .fs;
+              split = k .is;
               top = sym (x .1);
-              here = sym (x .1) ∙ ap start (q .is);
+              here = sym (x .1) ∙ ap start (k .is);
               small = lk .0;
               before = tt;
-              live = fresh-live w Receive L (x .2 .fresh);
+              live = fresh-live w Sides.Receive L (x .2 .fresh);
               stage = x .0;
             };
-            todo = rw (q .is) at (x .2);
+            todo = rw (k .is) at (x .2);
             some = one;
             short = omega arith;
-          })
+          }))
 
 -- what is asked of a frame's result
-record Arrived (v : View) (x : Framed) : Type 0 where
-  pub inv : Inv (withCtl (x .ctl) (v .store .mem) (build v))
-  pub number : numberOf (answerOf (x .number)) ≢ 22
-
-arrives : (P : Framed → Type 0) (b : Bool) (x y : Framed) → (b ≡ true → P x) → P y → P (pick b x y)
-arrives P true x y f h = f refl
-arrives P false x y f h = h
+record Arrived (s : Machine) (x : Framed) : Type 0 where
+  pub inv : Inv (withCtl (x .ctl) (s .mem) s)
+  pub number : x .number ≢ 22
 
 not-held : (a b : Bool) → not (pick a true b) ≡ true → b ≡ false
 not-held true b e = clash refl (sym e)
 not-held false true e = clash refl (sym e)
 not-held false false e = refl
 
-frame-arrives : (n : ℕ) (v : View) → Good v → Arrived v (frameOf n (ctlOf v))
+frame-arrives : (n : ℕ) (s : Machine) → Inv s → Arrived s (frameOf n (s .ctl))
 unfolding frameOf
-frame-arrives n v g =
-    arrives (Arrived v) (both (leb 1 n) (leb n lengthMax)) _ _
-    (λ fits. arrives (Arrived v) (both (not (eqb (v .r .hdp) 0)) (both (waits (v .rx)) (not (held (ctlOf v) 1)))) _ _
-    (λ e. let u = both-right (not (eqb (v .r .hdp) 0)) _ e in
-    let r = waits-ready v g (v .rx) (both-left (waits (v .rx)) _ u) (g .rx) (g .turnR) in
+frame-arrives n s i =
+    let c = s .ctl in
+    let k = queueOf Sides.Receive 0 in
+    by-pick (Arrived s) (c .undefined) _ _ (λ e. clash e (i .defined))
+    (λ o. by-pick (Arrived s) (both (leb 1 n) (leb n lengthMax)) _ _
+    (λ fits. by-pick (Arrived s) (both (not (eqb (hdpOf (c .state) k) 0)) (both (waits (rxOf c 0)) (not (held c k)))) _ _
+    (λ e. let u = both-right (not (eqb (hdpOf (c .state) k) 0)) _ e in
     record {
-      inv = record {
-        view = takes (v .store .mem) (setRegs (v .r .hdp) (v .r .cp) (v .r)) (R.Fetch (record { first = v .r .hdp; stored = 0; left = n })) (v .received) v;
-        is = refl;
-        good = taken v g n (leb-true 1 n (both-left (leb 1 n) _ fits)) (leb-true n lengthMax (both-right (leb 1 n) _ fits))
-            (not-held (v .common .reset) (v .r .torn) (both-right (waits (v .rx)) _ u)) (r .1) (r .0);
-      };
+      inv = taken s i 0 (omega arith) n (leb-true 1 n (both-left (leb 1 n) _ fits)) (leb-true n lengthMax (both-right (leb 1 n) _ fits))
+          (both-left (waits (rxOf c 0)) _ u) (not-held (resetOf (c .state)) (tearingOf (c .state) k) (both-right (waits (rxOf c 0)) _ u));
       number = omega arith;
     })
-    (record { inv = record { view = v; is = refl; good = g }; number = omega arith }))
-    (record { inv = record { view = v; is = refl; good = g }; number = omega arith })
+    (λ e. record { inv = i; number = omega arith }))
+    (λ e. record { inv = i; number = omega arith }))
 
-pub frame-kept : (n : ℕ) (v : View) → Good v → Kept (frame n) v
+pub frame-kept : (n : ℕ) (s : Machine) → Inv s → Kept (frame n) s
 unfolding applyFrame
-frame-kept n v g =
-    let a = frame-arrives n v g in
-    record { safe = record { defined = inv-defined (a .inv); answered = a .number; inPlace = tt; spares = tt }; inv = a .inv }
+frame-kept n s i =
+    let a = frame-arrives n s i in
+    record { safe = record { defined = inv-defined (a .inv); answered = answered _ (a .number); inPlace = tt; spares = tt }; inv = a .inv }
 
 -- ---- a step
 
 -- descriptor memory is fit, and the controller defined
-unless-fit : (v : View) → Good v → (x : Moved) → Fine v x → Fine v (unlessUndefined (ctlOf v) (v .store .mem) x)
-unless-fit v g x f = rw (eq-eqb (length (v .store .mem)) descBytes (g .held .fit .size)) f
+unless-fit : (s : Machine) → Inv s → (x : Moved) → Fine s x → Fine s (unlessUndefined (s .ctl) (s .mem) x)
+unless-fit s i x f =
+    by-pick (Fine s) (eqb (length (s .mem)) descBytes) _ _
+    (λ e. by-pick (Fine s) (s .ctl .undefined) _ _ (λ o. clash o (i .defined)) (λ o. f))
+    (λ e. clash (eq-eqb (length (s .mem)) descBytes (i .held .fit .size)) e)
 
-step-fine : (e : Engine) (v : View) → Good v → Fine v (stepOf e (ctlOf v) (v .store .mem))
+-- an engine of a channel that there is not cannot move
+on-channel : (s : Machine) → Inv s → (ch : ℕ) (x : Moved) → (ch < channels → Fine s x) → Fine s (onChannel ch (s .ctl) (s .mem) x)
+on-channel s i ch x f = by-pick (Fine s) (ltb ch channels) _ _ (λ e. f (ltb-true ch channels e)) (λ e. stays-fine s i)
+
+step-fine : (e : Engine) (s : Machine) → Inv s → Fine s (stepOf e (s .ctl) (s .mem))
 unfolding stepOf
-step-fine Reset v g = unless-fit v g _ (reset-fine v g)
-step-fine Transmit v g = unless-fit v g _ (transmit-fine v g)
-step-fine Taking v g = unless-fit v g _ (receive-fine v g)
-step-fine TearTransmit v g = unless-fit v g _ (tear-transmit v g)
-step-fine TearReceive v g = unless-fit v g _ (tear-receive v g)
+step-fine Reset s i = unless-fit s i _ (reset-fine s i)
+step-fine (Transmit ch) s i = unless-fit s i _ (on-channel s i ch _ (transmit-fine s i ch))
+step-fine (Receive ch) s i = unless-fit s i _ (on-channel s i ch _ (receive-fine s i ch))
+step-fine (TearTransmit ch) s i = unless-fit s i _ (on-channel s i ch _ (λ l. tear-fine s i _ (queue-lt Sides.Transmit ch l)))
+step-fine (TearReceive ch) s i = unless-fit s i _ (on-channel s i ch _ (λ l. tear-fine s i _ (queue-lt Sides.Receive ch l)))
 
-answered : (n : ℕ) → n ≡ 0 → numberOf (answerOf n) ≢ 22
-answered n e = rw e (omega arith)
-
-pub step-kept : (e : Engine) (v : View) → Good v → Kept (step e) v
+pub step-kept : (e : Engine) (s : Machine) → Inv s → Kept (step e) s
 unfolding applyStep
-step-kept e v g =
-    let f = step-fine e v g in
-    record { safe = record { defined = inv-defined (f .inv); answered = answered _ (f .number); inPlace = f .inPlace; spares = f .spares }; inv = f .inv }
+step-kept e s i =
+    let f = step-fine e s i in
+    record { safe = record { defined = inv-defined (f .inv); answered = answered (stepOf e (s .ctl) (s .mem) .number) (λ z. omega (arith, f .number, z)); inPlace = f .inPlace; spares = f .spares }; inv = f .inv }
 
 -- ---- a fresh machine
 
-zeros : (n k : ℕ) → getD {A = ℕ} (replicate n 0) k 0 ≡ 0
-zeros zero k = refl
-zeros (suc n) zero = refl
-zeros (suc n) (suc k) = zeros n k
-
 fresh-post : Post
-fresh-post = record { hdp = 0; cp = 0; stage = 1; booked = false; torn = false }
+fresh-post = record { hdp = 0; cp = 0; stage = 1; mark = false; booked = false; tearing = false }
 
 fresh-common : Common
-fresh-common = record {
-  bit = false;
-  bookReset = false;
-  bookMarks = false ∷ false ∷ false ∷ false ∷ [];
-  reset = false;
-  m0 = false;
-  m1 = false;
-  m2 = false;
-  m3 = false;
-}
+fresh-common = record { bit = false; reset = false; marks = 0; waits = true; bookReset = false; bookMarks = 0 }
 
-fresh-turn : Turn fresh-common fresh-post false true
+fresh-turn : Turn fresh-common fresh-post true
 unfolding fresh-common fresh-post
 fresh-turn = record {
   settles = refl;
@@ -204,34 +224,58 @@ fresh-lens : Recorded (replicate descWords 0) []
 unfolding emptySet
 fresh-lens = recorded-empty
 
+-- no flag is set in a table of zeros
+zero-table : Table (replicate stateWords 0)
+unfolding flagsFit
+zero-table = fits-table (length-replicate {A = ℕ} stateWords 0) refl
+
+module _ (kinds : List ℕ) where
+  common-fresh : commonOf (freshMachine kinds) ≡ fresh-common
+  unfolding freshMachine freshController fresh-common awaiting resetOf bitOf
+  common-fresh = refl
+
+  post-fresh : (q : ℕ) → postOf (freshMachine kinds) q ≡ fresh-post
+  unfolding freshMachine freshController fresh-post
+  post-fresh q =
+      let a = getD-same {A = ℕ} stateWords (hdpAt q) 0 in
+      let b = getD-same {A = ℕ} stateWords (cpAt q) 0 in
+      let c = getD-same {A = ℕ} queues q 1 in
+      let d = bit-none q in
+      cc
+
+  left-fresh : (q : ℕ) → leftOf (freshMachine kinds) (replicate queues []) q ≡ []
+  left-fresh q = ap (kept (wordsOf (freshMachine kinds)) (modeOf (freshMachine kinds))) (getD-same {A = List ℕ} queues q [])
+
+  rest-fresh : (q : ℕ) → AtRest kinds (freshMachine kinds .lens) [] (phaseOf (freshMachine kinds .ctl) q)
+  unfolding freshMachine freshController
+  rest-fresh = all-rest kinds _ freshController refl
+
+  shared-fresh : Shared (commonOf (freshMachine kinds))
+  unfolding fresh-common
+  shared-fresh = shared-of common-fresh (record { resets = refl; marks = refl; bits = refl; ready = λ e. clash e refl })
+
 pub fresh-inv : (kinds : List ℕ) → fitKinds kinds ≡ true → Inv (freshMachine kinds)
-unfolding freshMachine freshController fresh-common fresh-post
+unfolding freshMachine freshController
 fresh-inv kinds f = record {
-  view = record {
-    store = record { mem = replicate descBytes 0; kinds = kinds; used = emptySet; lens = replicate descWords 0; qt = []; qr = [] };
-    t = fresh-post;
-    r = fresh-post;
-    common = fresh-common;
-    tx = S.Idle;
-    rx = R.Idle;
-    sent = 0;
-    received = 0;
+  qs = replicate queues [];
+  sized = record {
+    book = zero-table;
+    ctl = zero-table;
+    stages = length-replicate {A = ℕ} queues 1;
+    channels = length-replicate channels idleChannel;
   };
-  is = refl;
-  good = record {
-    held = record {
-      fit = record { size = length-replicate {A = ℕ} 8192 0; bytes = λ k. rw (zeros 8192 k) (omega arith) };
-      kinds = f;
-      linkT = tt;
-      linkR = tt;
-      sole = sole-empty;
-      recorded = fresh-lens;
-    };
-    shared = record { resets = refl; marks = refl; bits = refl; ready = λ e. clash e refl };
-    turnT = fresh-turn;
-    turnR = fresh-turn;
-    tx = refl;
-    rx = refl;
-    room = tt;
+  defined = refl;
+  held = record {
+    fit = record { size = length-replicate {A = ℕ} descBytes 0; bytes = λ k. rw (getD-same {A = ℕ} descBytes k 0) (omega arith) };
+    kinds = f;
+    many = length-replicate {A = List ℕ} queues [];
+    heads = λ q l. rw (getD-same {A = ℕ} stateWords q 0, getD-same {A = List ℕ} queues q []) refl;
+    linked = λ q. rw (getD-same {A = List ℕ} queues q []) tt;
+    sole = sole-empty;
+    recorded = fresh-lens;
   };
+  shared = shared-fresh kinds;
+  turn = λ q l. turn-of (common-fresh kinds) (post-fresh kinds q) (rest-fresh kinds q .rests) fresh-turn;
+  engine = λ q l. rw (left-fresh kinds q) (rest-fresh kinds q .serves _ _ _);
+  room = λ q l. rw (left-fresh kinds q) (no-room (sideOf q) _ _ _);
 }

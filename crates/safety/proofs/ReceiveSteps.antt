@@ -1,39 +1,39 @@
--- Every step of the receive engine keeps the invariant, is never undefined, stores into Linux data alone and marks descriptors
+-- Every step of a receive engine keeps the invariant, is never undefined, stores into Linux data alone and marks descriptors
 -- in use alone. Assumes nothing.
---     wentR, quietly           a step that goes on, from the view that it leaves
 --     fetch-is, burst-is, ..   what a step of a fit record computes to
+--     After x m                what is asked of a step that hands back x and leaves the memory m
+--     takes, quietly           a step that goes on
 --     fetch-fine, .., done-fine   the step of each phase
 --     receive-fine             every step
-use Prim.Native.Nat.{ℕ, _+_, _-_, _≤_, _<_, _^_, min}
-use mathlib.Core.Path.{_≡_, refl, ap, _∙_, sym}
+use Prim.Native.Nat.{ℕ, _+_, _*_, _-_, _≤_, _<_, min}
+use mathlib.Core.Path.{_≡_, refl, ap, _∙_}
 use mathlib.Core.Bool.{Bool, true, false, not}
-use mathlib.Core.List.{List, [], _∷_, _++_}
+use mathlib.Core.List.{List, [], _∷_}
 use mathlib.Core.Logic.{inl, inr, _≢_}
 use native.Mathlib.Omega.{arith}
 use lib.ListN.{getD}
 use lib.Dec.{eqb, ltb}
 use borrow.Author.Tests.{eq-eqb, ne-eqb, eqb-true, eqb-false, le-ltb, ltb-true, not-true}
 use Rattle.layout.specs.Choice.{pick, both}
-use Rattle.layout.specs.Layout.{goodPtr, wordOf, addr, addressEnd, wordMax, lengthMax}
+use Rattle.layout.specs.Layout.{addr, addressEnd, wordOf, wordMax, lengthMax, channels}
 use Rattle.layout.specs.declared.Side.the-variants.{Receive}
 use Rattle.layout.proofs.ChoiceLaws.{clash, both-left, both-right}
-use Rattle.layout.proofs.PointerLaws.{goodPtr-addr, goodPtr-bounds, wordOf-addr}
+use Rattle.layout.proofs.PointerLaws.{goodPtr-addr, wordOf-addr}
 use Rattle.words.specs.Word.{word}
-use Rattle.words.specs.WordSet.{has}
 use Rattle.blocks.specs.Room.{roomOf}
 use Rattle.blocks.specs.declared.Room.the-variants.{Free}
 use Rattle.blocks.proofs.RoomLaws.{room-free}
 use Rattle.descriptor.specs.Fields.{eop, eoq, owner, td, lengthOf, firstByte}
 use Rattle.descriptor.specs.Rules.{fetchFault}
-use Rattle.descriptor.specs.Marks.{lastMark, firstMark, marked, lastMarked}
+use Rattle.marks.specs.Marks.{lastMark, firstMark, marked, lastMarked}
 use Rattle.descriptor.specs.declared.Place.the-variants.{Buffer}
-use Rattle.registers.specs.Pending.{tornDown}
+use Rattle.descriptor.proofs.RuleLaws.{flagsFault-buffer, ownFault-parts}
+use Rattle.marks.proofs.MarkLaws.{word-lastMarked-flags}
+use Rattle.marks.proofs.FlagLaws.{eop-lastMark, eoq-lastMark, owner-lastMark, td-lastMark, owner-firstMark, eop-firstMark, eoq-firstMark, td-firstMark, firstMark-lt}
 use Rattle.queue.specs.Queue.{start, Linked}
-use Rattle.queue.proofs.LinkLaws.{all-right, all-map, start-zero}
-use Rattle.queue.proofs.KeptLaws.{kept-linked, kept-live}
-use Rattle.queue.proofs.StoreLaws.{Same, Same3, same-same3, Only, marked-only, last-marked-only}
-use Rattle.queue.proofs.FreshLaws.{length-fits, behind-buffer, fetch-good, fresh-live}
-use Rattle.phases.specs.declared.Burst.{Burst}
+use Rattle.queue.proofs.LinkLaws.{all-right}
+use Rattle.queue.proofs.StoreLaws.{last-marked-only}
+use Rattle.queue.proofs.FreshLaws.{length-fits, behind-buffer, fetch-good}
 use Rattle.phases.specs.declared.Burst.the-variants.{Quiet, Store}
 use Rattle.phases.specs.declared.Frame.{Frame}
 use Rattle.phases.specs.declared.Storing.{Storing}
@@ -41,46 +41,22 @@ use Rattle.phases.specs.declared.Filled.{Filled}
 use Rattle.phases.specs.declared.Stored.{Stored}
 use Rattle.phases.specs.declared.Receiving.{Receiving}
 use Rattle.phases.specs.declared.Receiving.the-variants.{Idle, Wait, Fetch, Moving, Ended, Last, First, Done}
+use Rattle.phases.specs.declared.Took.{Took}
 use Rattle.phases.specs.declared.Takes.{Takes}
 use Rattle.phases.specs.declared.Takes.the-variants.{Went}
 use Rattle.phases.specs.Receive.{toPhase, tooLong, fetch, burstSize, advanced, storeBurst, close, markLast, markFirst, finish, takeStep}
-use Rattle.controller.specs.Controller.{takeMoved, added, receiveStep}
-use Rattle.safety.specs.Statement.{InPlace}
-use Rattle.safety.proofs.View.{View, ctlOf, wordsOf, modeOf, leftR, setRegs, takes}
-use Rattle.safety.proofs.Inv.{Fillable, Spot, Latched, Latch, Owned, Through, AtFetch, AtStoring, AtFilled, AtLast, AtFirst, RxInv, idleRx, Turn, Good}
-use Rattle.descriptor.proofs.RuleLaws.{flagsFault-buffer, ownFault-parts}
-use Rattle.descriptor.proofs.MarkLaws.{word-lastMarked-flags}
-use Rattle.descriptor.proofs.FlagLaws.{eop-lastMark, eoq-lastMark, owner-lastMark, td-lastMark, owner-firstMark, eop-firstMark, eoq-firstMark, td-firstMark, firstMark-lt}
-use Rattle.safety.proofs.Frame.{fillable-same}
-use Rattle.safety.proofs.Ends.{Top, good-start, latched, spot-linked, spot-top, spot-is-top, spot-next, spot-marked, owned-done}
-use Rattle.safety.proofs.Touch.{Fine, word-fits, marked-fits, marked-reads, last-marked-fits, turn-move, turn-done, turn-stays, moveR, touchR, spared, sole-swapped}
+use Rattle.controller.specs.Controller.{rxOf, takeMoved, added, receiveStep}
+use Rattle.machine.specs.Machine.{Machine}
+use Rattle.safety.proofs.Inv.{Fillable, Roomy, Spot, Latched, Latch, Through, RxInv, idleRx, taking, Post, postOf, commonOf, wordsOf, leftOf, Turn, Inv}
+use Rattle.safety.proofs.Ends.{latched, spot-linked, spot-next}
+use Rattle.safety.proofs.Marks.{side-queue, channel-queue, queue-lt, phase-queue, last-marked-fits, withRegs, turn-move, turn-done}
+use Rattle.safety.proofs.Touch.{Fine, went, move-fine}
+use Rattle.safety.proofs.LastSteps.{pointer-good, pointer-word, left-linked, spot-first, mark-last, mark-first, through-idle, through-ready}
 
--- ---- a step that goes on
-
-pub wentR : (v : View) (m : List ℕ) (h cp : ℕ) (ph : Receiving) (b : Burst) (k : ℕ)
-    → Good (takes m (setRegs h cp (v .r)) ph (added (v .received) k) v) → InPlace (v .store .kinds) b
-    → ((j : ℕ) → has (v .store .used) j ≡ false → word m j ≡ wordsOf v j)
-    → Fine v (takeMoved (Went (record { state = ph; hdp = h; cp = cp; burst = b; octets = k }), m) (ctlOf v) (v .store .mem))
-wentR v m h cp ph b k g i s = record {
-  inv = record { view = takes m (setRegs h cp (v .r)) ph (added (v .received) k) v; is = refl; good = g };
-  number = refl;
-  inPlace = i;
-  spares = s;
-}
-
--- no burst, and memory as it was
-quietly : (v : View) (g : Good v) (ph : Receiving) (h cp : ℕ) → Turn (v .common) (setRegs h cp (v .r)) (v .common .m1) (idleRx ph)
-    → RxInv (v .store .lens) (wordsOf v) (leftR v) h (v .r .stage) ph
-    → Fine v (takeMoved (toPhase ph h cp, v .store .mem) (ctlOf v) (v .store .mem))
-quietly v g ph h cp t i = wentR v (v .store .mem) h cp ph Quiet 0 (moveR v g (setRegs h cp (v .r)) ph (added (v .received) 0) t i) tt (λ k f. refl)
-
-left-linked : (v : View) → Good v → Linked (wordsOf v) (leftR v)
-left-linked v g = kept-linked (wordsOf v) (modeOf v) (v .store .qr) (g .held .linkR)
+-- ---- what a step of a fit record computes to
 
 not-long : (a b : ℕ) → a + b ≤ lengthMax → tooLong a b ≡ false
 not-long a b h = le-ltb lengthMax (a + b) h
-
--- ---- step 1
 
 fetch-is : (w : ℕ → ℕ) (f : Frame) (h cp d : ℕ) → h ≡ addr d → d ≤ 2044 → f .stored + f .left ≤ lengthMax
     → fetchFault Buffer (w d) (w (d + 1)) (w (d + 2)) (w (d + 3)) ≡ 0
@@ -100,308 +76,255 @@ receive-first : (x1 x2 x3 : ℕ) → firstByte Receive x1 x2 x3 ≡ x1
 unfolding firstByte
 receive-first x1 x2 x3 = refl
 
-fetch-fine : (v : View) (g : Good v) (f : Frame) → Turn (v .common) (v .r) (v .common .m1) false
-    → AtFetch (v .store .lens) (wordsOf v) (leftR v) (v .r .hdp) (v .r .stage) f
-    → Fine v (takeMoved (fetch (wordsOf v) f (v .r .hdp) (v .r .cp), v .store .mem) (ctlOf v) (v .store .mem))
-fetch-fine v g f t i =
-    let w = wordsOf v in
-    let z = i .spot in
-    let d = z .d in
-    let lk = spot-linked w (leftR v) z (left-linked v g) in
-    let own = ownFault-parts Buffer (w (d + 1)) (w (d + 2)) (w (d + 3)) (i .todo .fresh .0) in
-    let flags = flagsFault-buffer (w (d + 3)) (own .0) in
-    let fits = length-fits Receive (w (d + 1)) (w (d + 2)) (w (d + 3)) (own .1) in
-    let end : w (d + 1) + lengthOf Receive (w (d + 2)) ≤ addressEnd = rw (receive-first (w (d + 1)) (w (d + 2)) (w (d + 3))) at (fits .last) in
-    rw (fetch-is w f (v .r .hdp) (v .r .cp) d (z .here) (z .small) (i .short) (fetch-good w Buffer d (z .rs) (i .todo .fresh) (lk .1)))
-    (quietly v g _ (v .r .hdp) (v .r .cp) (turn-move t (v .r .hdp) false (λ m e. clash e refl))
-    (record {
-      taken = record {
-        spot = z;
-        todo = record { fresh = rw (behind-buffer (w (d + 2)) (w (d + 3))) at (i .todo .fresh .1); long = i .todo .long .1 };
-        noEop = flags .2;
-        clean = flags .3;
-      };
-      more = i .some;
-      some = fits .some;
-      short = i .short;
-      from = omega arith;
-      until = ap (λ (n : ℕ). w (d + 1) + n) (i .todo .long .0);
-      below = end;
-      few = omega arith;
-    }))
-
--- ---- step 2
-
 burst-is : (s : Storing) (h cp : ℕ) → 1 ≤ s .left → 1 ≤ s .room → s .stored + s .left ≤ lengthMax → s .at + s .room ≤ addressEnd
     → storeBurst s h cp ≡ Went (record { state = advanced s (burstSize s); hdp = h; cp = cp; burst = Store (s .at) (burstSize s); octets = 0 })
 unfolding storeBurst
 burst-is s h cp a b c e =
     simp (not-long (s .stored) (s .left) c, ne-eqb (min (s .room) (s .left)) 0 (λ z. omega (arith, z, a, b)), le-ltb addressEnd (s .at + s .room) e)
 
-moving-fine : (v : View) (g : Good v) (s : Storing) → Turn (v .common) (v .r) (v .common .m1) false
-    → AtStoring (v .store .lens) (wordsOf v) (leftR v) (v .r .hdp) (v .r .stage) s
-    → Fine v (takeMoved (storeBurst s (v .r .hdp) (v .r .cp), v .store .mem) (ctlOf v) (v .store .mem))
-moving-fine v g s t i =
-    rw (burst-is s (v .r .hdp) (v .r .cp) (i .more) (i .some) (i .short) (i .below))
-    (wentR v (v .store .mem) (v .r .hdp) (v .r .cp) (advanced s n) (Store (s .at) n) 0
-    (moveR v g (setRegs (v .r .hdp) (v .r .cp) (v .r)) (advanced s n) (added (v .received) 0)
-    (on-turn (both (ltb n (s .room)) (ltb n (s .left)))) (on (both (ltb n (s .room)) (ltb n (s .left))) refl))
-    (λ x a b. room-free Receive (v .store .kinds) (w (z .d + 1)) long free (omega (arith, i .some, i .from, i .until)) x
-    (omega (arith, a, i .from), omega (arith, b, i .until)))
-    (λ k f. refl))
-  where
-    w : ℕ → ℕ
-    w = wordsOf v
+-- ---- the engine of a channel
 
-    z : Spot w (leftR v) (s .first) (v .r .hdp) (v .r .stage)
-    z = i .taken .spot
+module _ (s : Machine) (i : Inv s) (ch : ℕ) (l : ch < channels) where
+  abbrev q : ℕ
+  q = 2 * ch + 1
 
-    n : ℕ
-    n = burstSize s
+  -- its queue's registers, its words, and what is left of its queue
+  abbrev here : Post
+  here = postOf s q
 
-    long : ℕ
-    long = getD (v .store .lens) (z .d) 0
+  abbrev w : ℕ → ℕ
+  w = wordsOf s
 
-    free : roomOf Receive (v .store .kinds) (w (z .d + 1)) long ≡ Free
-    free = all-right _ (z .cs) (z .d ∷ z .rs) (rw (z .split) at (g .room)) .0
+  abbrev L : List ℕ
+  L = leftOf s (i .qs) q
 
-    more : Receiving
-    more = Moving (record { first = s .first; stored = s .stored + n; left = s .left - n; at = s .at + n; room = s .room - n; here = min (s .here + n) wordMax })
+  linked : Linked w L
+  linked = left-linked s i q
 
-    ended : Receiving
-    ended = Ended (record { first = s .first; stored = s .stored + n; left = s .left - n; room = s .room - n; here = min (s .here + n) wordMax })
+  roomy : Roomy (s .kinds) (s .lens) w L
+  roomy = rw (side-queue Receive ch) at (i .room q (queue-lt Receive ch l))
 
-    on-turn : (b : Bool) → Turn (v .common) (setRegs (v .r .hdp) (v .r .cp) (v .r)) (v .common .m1) (idleRx (pick b more ended))
-    on-turn true = turn-move t (v .r .hdp) false (λ m x. clash x refl)
-    on-turn false = turn-move t (v .r .hdp) false (λ m x. clash x refl)
+  -- what stands there to be done in phase ph, at HDP h
+  abbrev Stands : ℕ → Receiving → Type 0
+  Stands h ph = RxInv (s .lens) w L h (here .stage) ph
 
-    on : (b : Bool) → both (ltb n (s .room)) (ltb n (s .left)) ≡ b → RxInv (v .store .lens) w (leftR v) (v .r .hdp) (v .r .stage) (pick b more ended)
-    on true e =
-        let a = ltb-true n (s .room) (both-left _ _ e) in
-        let b = ltb-true n (s .left) (both-right (ltb n (s .room)) _ e) in
-        record {
-          taken = i .taken;
-          more = omega (arith, b);
-          some = omega (arith, a);
-          short = omega (arith, b, i .short);
-          from = omega (arith, i .from);
-          until = omega (arith, a, i .until);
-          below = omega (arith, a, i .below);
-          few = omega (arith, i .few);
-        }
-    on false e = record { taken = i .taken; short = omega (arith, i .short); few = omega (arith, i .few) }
+  abbrev After : Takes → List ℕ → Type 0
+  After x m = Fine s (takeMoved ch (x, m) (s .ctl) (s .mem))
 
--- ---- step 3
+  -- ---- a step that goes on
 
-ended-fine : (v : View) (g : Good v) (e : Filled) → Turn (v .common) (v .r) (v .common .m1) false
-    → AtFilled (v .store .lens) (wordsOf v) (leftR v) (v .r .hdp) (v .r .stage) e
-    → Fine v (takeMoved (close (wordsOf v) e (v .r .hdp) (v .r .cp), v .store .mem) (ctlOf v) (v .store .mem))
-unfolding close
-ended-fine v g e t i =
-    let good : goodPtr h ≡ true = ap goodPtr (z .here) ∙ goodPtr-addr (z .d) (z .small) in
-    let here : wordOf h ≡ z .d = ap wordOf (z .here) ∙ wordOf-addr (z .d) in
-    rw (not-long (e .stored) (e .left) (i .short), good, here) (at (both full (not (eqb (w (z .d)) 0))) refl)
-  where
-    w : ℕ → ℕ
-    w = wordsOf v
+  takes : (r : Took) (m : List ℕ)
+      → Fine s (went q (taking (r .state)) (r .hdp) (r .cp) (s .ctl .sent) (added (s .ctl .received) (r .octets)) (r .burst) m (s .ctl)) → After (Went r) m
+  takes r m f = rw (channel-queue Receive ch) at f
 
-    h : ℕ
-    h = v .r .hdp
+  -- no burst, and memory as it was
+  quietly : (ph : Receiving) (h cp : ℕ) → Turn (commonOf s) (withRegs h cp here) (idleRx ph) → Stands h ph → After (toPhase ph h cp) (s .mem)
+  quietly ph h cp t e = takes _ (s .mem) (move-fine s i q (queue-lt Receive ch l) (taking ph) (side-queue Receive ch) h cp _ _ Quiet tt t e)
 
-    z : Spot w (leftR v) (e .first) h (v .r .stage)
-    z = i .taken .spot
+  module _ (t : Turn (commonOf s) here false) where
+    -- ---- step 1
 
-    lk : Linked w (z .d ∷ z .rs)
-    lk = spot-linked w (leftR v) z (left-linked v g)
-
-    full : Bool
-    full = both (eqb (e .room) 0) (not (eqb (e .left) 0))
-
-    on : Takes
-    on = toPhase (Fetch (record { first = e .first; stored = e .stored; left = e .left })) (w (z .d)) (v .r .cp)
-
-    last : Takes
-    last = toPhase (Last (record { first = e .first; stored = e .stored; here = e .here; next = w (z .d); overrun = full })) h (v .r .cp)
-
-    go : (rs : List ℕ) → z .rs ≡ rs → w (z .d) ≢ 0 → e .left ≢ 0 → Fine v (takeMoved (on, v .store .mem) (ctlOf v) (v .store .mem))
-    go [] q n l = absurd (n (lk .1 ∙ ap start q))
-    go (r ∷ rs) q n l =
-        let lr : Linked w (r ∷ rs) = rw q at (lk .2) in
-        quietly v g (Fetch (record { first = e .first; stored = e .stored; left = e .left })) (w (z .d)) (v .r .cp) (turn-move t (w (z .d)) false (λ m x. clash x refl))
+    fetch-fine : (f : Frame) → Stands (here .hdp) (Fetch f) → After (fetch w f (here .hdp) (here .cp)) (s .mem)
+    fetch-fine f e =
+        let z = e .spot in
+        let d = z .d in
+        let lk = spot-linked w L z linked in
+        let own = ownFault-parts Buffer (w (d + 1)) (w (d + 2)) (w (d + 3)) (e .todo .fresh .0) in
+        let flags = flagsFault-buffer (w (d + 3)) (own .0) in
+        let fits = length-fits Receive (w (d + 1)) (w (d + 2)) (w (d + 3)) (own .1) in
+        let end : w (d + 1) + lengthOf Receive (w (d + 2)) ≤ addressEnd = rw (receive-first (w (d + 1)) (w (d + 2)) (w (d + 3))) at (fits .last) in
+        rw (fetch-is w f (here .hdp) (here .cp) d (z .here) (z .small) (e .short) (fetch-good w Buffer d (z .rs) (e .todo .fresh) (lk .1)))
+        (quietly _ (here .hdp) (here .cp) t
         (record {
-          spot = spot-next w (leftR v) (e .first) h (v .r .stage) z r rs q (lr .0) (i .taken .noEop) (w (z .d)) (lk .1 ∙ ap start q);
-          todo = rw q at (i .taken .todo);
-          some = omega (arith, l);
-          short = i .short;
+          taken = record {
+            spot = z;
+            todo = record { fresh = rw (behind-buffer (w (d + 2)) (w (d + 3))) at (e .todo .fresh .1); long = e .todo .long .1 };
+            noEop = flags .2;
+            clean = flags .3;
+          };
+          more = e .some;
+          some = fits .some;
+          short = e .short;
+          from = omega arith;
+          until = ap (λ (n : ℕ). w (d + 1) + n) (e .todo .long .0);
+          below = end;
+          few = omega arith;
+        }))
+
+    -- ---- step 2
+
+    moving-fine : (r : Storing) → Stands (here .hdp) (Moving r) → After (storeBurst r (here .hdp) (here .cp)) (s .mem)
+    moving-fine r e =
+        rw (burst-is r (here .hdp) (here .cp) (e .more) (e .some) (e .short) (e .below))
+        (takes _ (s .mem)
+        (move-fine s i q (queue-lt Receive ch l) (taking (advanced r n)) (side-queue Receive ch) (here .hdp) (here .cp) _ _ (Store (r .at) n)
+        (λ x a b. room-free Receive (s .kinds) (w (z .d + 1)) long free (omega (arith, e .some, e .from, e .until)) x
+        (omega (arith, a, e .from), omega (arith, b, e .until)))
+        (on-turn (both (ltb n (r .room)) (ltb n (r .left)))) (on (both (ltb n (r .room)) (ltb n (r .left))) refl)))
+      where
+        z : Spot w L (r .first) (here .hdp) (here .stage)
+        z = e .taken .spot
+
+        n : ℕ
+        n = burstSize r
+
+        long : ℕ
+        long = getD (s .lens) (z .d) 0
+
+        free : roomOf Receive (s .kinds) (w (z .d + 1)) long ≡ Free
+        free = all-right _ (z .cs) (z .d ∷ z .rs) (rw (z .split) at roomy) .0
+
+        more : Receiving
+        more = Moving (record { first = r .first; stored = r .stored + n; left = r .left - n; at = r .at + n; room = r .room - n; here = min (r .here + n) wordMax })
+
+        ended : Receiving
+        ended = Ended (record { first = r .first; stored = r .stored + n; left = r .left - n; room = r .room - n; here = min (r .here + n) wordMax })
+
+        on-turn : (b : Bool) → Turn (commonOf s) here (idleRx (pick b more ended))
+        on-turn true = t
+        on-turn false = t
+
+        on : (b : Bool) → both (ltb n (r .room)) (ltb n (r .left)) ≡ b → Stands (here .hdp) (pick b more ended)
+        on true c =
+            let a = ltb-true n (r .room) (both-left _ _ c) in
+            let b = ltb-true n (r .left) (both-right (ltb n (r .room)) _ c) in
+            record {
+              taken = e .taken;
+              more = omega (arith, b);
+              some = omega (arith, a);
+              short = omega (arith, b, e .short);
+              from = omega (arith, e .from);
+              until = omega (arith, a, e .until);
+              below = omega (arith, a, e .below);
+              few = omega (arith, e .few);
+            }
+        on false c = record { taken = e .taken; short = omega (arith, e .short); few = omega (arith, e .few) }
+
+    -- ---- step 3
+
+    ended-fine : (f : Filled) → Stands (here .hdp) (Ended f) → After (close w f (here .hdp) (here .cp)) (s .mem)
+    unfolding close
+    ended-fine f e =
+        rw (not-long (f .stored) (f .left) (e .short), pointer-good (z .here) (z .small), pointer-word (z .here)) (at (both full (not (eqb (w (z .d)) 0))) refl)
+      where
+        z : Spot w L (f .first) (here .hdp) (here .stage)
+        z = e .taken .spot
+
+        lk : Linked w (z .d ∷ z .rs)
+        lk = spot-linked w L z linked
+
+        full : Bool
+        full = both (eqb (f .room) 0) (not (eqb (f .left) 0))
+
+        on : Receiving
+        on = Fetch (record { first = f .first; stored = f .stored; left = f .left })
+
+        last : Receiving
+        last = Last (record { first = f .first; stored = f .stored; here = f .here; next = w (z .d); overrun = full })
+
+        go : (rs : List ℕ) → z .rs ≡ rs → w (z .d) ≢ 0 → f .left ≢ 0 → After (toPhase on (w (z .d)) (here .cp)) (s .mem)
+        go [] x n k = absurd (n (lk .1 ∙ ap start x))
+        go (r ∷ rs) x n k =
+            let lr : Linked w (r ∷ rs) = rw x at (lk .2) in
+            quietly on (w (z .d)) (here .cp) (turn-move t (w (z .d)))
+            (record {
+              spot = spot-next w L (f .first) (here .hdp) (here .stage) z r rs x (lr .0) (e .taken .noEop) (w (z .d)) (lk .1 ∙ ap start x);
+              todo = rw x at (e .taken .todo);
+              some = omega (arith, k);
+              short = e .short;
+            })
+
+        at : (b : Bool) → both full (not (eqb (w (z .d)) 0)) ≡ b
+            → After (pick b (toPhase on (w (z .d)) (here .cp)) (toPhase last (here .hdp) (here .cp))) (s .mem)
+        at true x =
+            go (z .rs) refl
+            (eqb-false (w (z .d)) 0 (not-true _ (both-right full _ x)))
+            (eqb-false (f .left) 0 (not-true _ (both-right (eqb (f .room) 0) _ (both-left full _ x))))
+        at false x =
+            quietly last (here .hdp) (here .cp) t
+            (record { taken = e .taken; short = omega (arith, e .short); few = e .few; latch = latched (z .rs) (w (z .d)) (lk .1) })
+
+    -- ---- step 4
+
+    last-fine : (r : Stored) → Stands (here .hdp) (Last r) → Fine s (takeMoved ch (markLast (s .mem) r (here .hdp) (here .cp)) (s .ctl) (s .mem))
+    unfolding markLast
+    last-fine r e =
+        rw (le-ltb lengthMax (r .here) (omega (arith, few)), pointer-good (z .here) (z .small), pointer-word (z .here))
+        (takes _ m
+        (mark-last s i q (queue-lt Receive ch l) Receive (taking (First r)) (side-queue Receive ch) t (r .first) (r .next) z (e .taken .todo) m
+        (last-marked-only (r .here) (r .next) (z .d) (s .mem)) (last-marked-fits (r .here) (r .next) (z .d) (s .mem) few (i .held .fit))
+        (ap owner there ∙ owner-lastMark (r .next) x) (ap td there ∙ td-lastMark (r .next) x) (ap eop there ∙ eop-lastMark (r .next) x) (latch (e .latch))
+        (λ ds o. record { owned = o; short = e .short }) _ _))
+      where
+        z : Spot w L (r .first) (here .hdp) (here .stage)
+        z = e .taken .spot
+
+        x : ℕ
+        x = w (z .d + 3)
+
+        m : List ℕ
+        m = lastMarked (r .here) (r .next) (z .d) (s .mem)
+
+        few : r .here < 2048
+        few = omega (arith, e .short, e .few)
+
+        there : word m (z .d + 3) ≡ lastMark (r .next) x
+        there = word-lastMarked-flags (r .here) (r .next) (z .d) (s .mem) (i .held .fit .size) (z .small) (i .held .fit .bytes)
+
+        latch : Latched (z .rs) (r .next) → Latch (word m) (z .d) (z .rs) (r .next)
+        latch (inl n) = inl (n, ap eoq there ∙ eoq-lastMark (r .next) x ∙ rw (eq-eqb (r .next) 0 n) refl)
+        latch (inr n) = inr (n .0, ap eoq there ∙ eoq-lastMark (r .next) x ∙ rw (ne-eqb (r .next) 0 (n .1)) (e .taken .clean), n .1)
+
+    -- ---- step 5
+
+    first-fine : (r : Stored) → Stands (here .hdp) (First r) → Fine s (takeMoved ch (markFirst (s .mem) r (here .hdp) (here .cp)) (s .ctl) (s .mem))
+    unfolding markFirst
+    first-fine r e =
+        rw (le-ltb lengthMax (r .stored) (e .short), spot-first w L (e .owned .spot) linked)
+        (takes _ (marked mark (wordOf (r .first)) (s .mem))
+        (mark-first s i q (queue-lt Receive ch l) Receive (taking (Done (record { next = r .next }))) (side-queue Receive ch) t (r .first) (r .next) (e .owned) mark
+        (λ x b. record {
+          small = firstMark-lt (r .stored) (r .overrun) x short b;
+          end = eop-firstMark (r .stored) (r .overrun) x short;
+          last = eoq-firstMark (r .stored) (r .overrun) x short;
+          whole = td-firstMark (r .stored) (r .overrun) x short;
+          given = owner-firstMark (r .stored) (r .overrun) x;
         })
+        (λ ds o. o) _ _))
+      where
+        mark : ℕ → ℕ
+        mark x = firstMark (r .stored) (r .overrun) x
 
-    at : (b : Bool) → both full (not (eqb (w (z .d)) 0)) ≡ b → Fine v (takeMoved (pick b on last, v .store .mem) (ctlOf v) (v .store .mem))
-    at true x =
-        go (z .rs) refl
-        (eqb-false (w (z .d)) 0 (not-true _ (both-right full _ x)))
-        (eqb-false (e .left) 0 (not-true _ (both-right (eqb (e .room) 0) _ (both-left full _ x))))
-    at false x =
-        quietly v g (Last (record { first = e .first; stored = e .stored; here = e .here; next = w (z .d); overrun = full })) h (v .r .cp) (turn-move t h false (λ m x. clash x refl))
-        (record { taken = i .taken; short = omega (arith, i .short); few = i .few; latch = latched (z .rs) (w (z .d)) (lk .1) })
+        short : r .stored < 2048
+        short = omega (arith, e .short)
 
--- ---- step 4
+    -- ---- step 6
 
-last-fine : (v : View) (g : Good v) (s : Stored) → Turn (v .common) (v .r) (v .common .m1) false
-    → AtLast (v .store .lens) (wordsOf v) (leftR v) (v .r .hdp) (v .r .stage) s
-    → Fine v (takeMoved (markLast (v .store .mem) s (v .r .hdp) (v .r .cp)) (ctlOf v) (v .store .mem))
-unfolding markLast
-last-fine v g s t i =
-    let good : goodPtr h ≡ true = ap goodPtr (z .here) ∙ goodPtr-addr (z .d) (z .small) in
-    let here : wordOf h ≡ z .d = ap wordOf (z .here) ∙ wordOf-addr (z .d) in
-    rw (le-ltb lengthMax (s .here) (omega (arith, i .short, i .few)), good, here)
-    (wentR v m′ h (v .r .cp) (First s) Quiet 0
-    (touchR v g (z .cs) (z .d) (z .rs) m′ only (last-marked-fits (s .here) (s .next) (z .d) m few (g .held .fit)) (setRegs h (v .r .cp) (v .r)) (z .split) (First s) (added (v .received) 0) (turn-move t h false (λ m x. clash x refl))
-    (λ k. let y = spot-marked w (word m′) (leftR v) (s .first) h (v .r .stage) z (k .before) (ap owner there ∙ owner-lastMark (s .next) x) (ap td there ∙ td-lastMark (s .next) x) in
-    rw (kept-live (word m′) (z .cs ++ z .d ∷ z .rs) (y .live))
-    (record {
-      owned = record {
-        spot = y;
-        todo = fillable-same (v .store .lens) w (word m′) (z .rs) (all-map (Same w (word m′)) (Same3 w (word m′)) (same-same3 w (word m′)) (z .rs) (k .behind)) (i .taken .todo);
-        last = ap eop there ∙ eop-lastMark (s .next) x;
-        latch = latch (i .latch);
-      };
-      short = i .short;
-    })))
-    tt
-    (spared w (word m′) (modeOf v) (v .store .qr) (v .store .qt) (v .store .used) (z .cs) (z .d) (z .rs) (z .split) (sole-swapped (v .store .qt) (v .store .qr) (g .held .sole)) only))
-  where
-    w : ℕ → ℕ
-    w = wordsOf v
+    done-fine : (n : ℕ) → Through (Fillable (s .lens) w) L (here .hdp) (here .stage) n → After (finish n (here .hdp)) (s .mem)
+    unfolding finish
+    done-fine n r = at (eqb n 0) refl
+      where
+        at : (b : Bool) → eqb n 0 ≡ b → After (toPhase (pick b Idle Wait) n (here .hdp)) (s .mem)
+        at true e = quietly Idle n (here .hdp) (turn-done t (r .good) n true (λ x. eqb-true n 0 e)) (through-idle _ L r (eqb-true n 0 e))
+        at false e = quietly Wait n (here .hdp) (turn-done t (r .good) n false (λ x. clash x refl)) (through-ready _ L r w linked (eqb-false n 0 e))
 
-    m : List ℕ
-    m = v .store .mem
+  -- ---- every step
 
-    h : ℕ
-    h = v .r .hdp
+  from-phase : (ph : Receiving) → Turn (commonOf s) here (idleRx ph) → Stands (here .hdp) ph
+      → Fine s (takeMoved ch (takeStep (s .mem) ph (here .hdp) (here .cp)) (s .ctl) (s .mem))
+  unfolding takeStep
+  from-phase Idle t e = quietly Idle (here .hdp) (here .cp) t e
+  from-phase Wait t e = quietly Wait (here .hdp) (here .cp) t e
+  from-phase (Fetch f) t e = fetch-fine t f e
+  from-phase (Moving r) t e = moving-fine t r e
+  from-phase (Ended f) t e = ended-fine t f e
+  from-phase (Last r) t e = last-fine t r e
+  from-phase (First r) t e = first-fine t r e
+  from-phase (Done n) t e = done-fine t (n .next) e
 
-    z : Spot w (leftR v) (s .first) h (v .r .stage)
-    z = i .taken .spot
-
-    x : ℕ
-    x = w (z .d + 3)
-
-    m′ : List ℕ
-    m′ = lastMarked (s .here) (s .next) (z .d) m
-
-    few : s .here < 2048
-    few = omega (arith, i .short, i .few)
-
-    there : word m′ (z .d + 3) ≡ lastMark (s .next) x
-    there = word-lastMarked-flags (s .here) (s .next) (z .d) m (g .held .fit .size) (z .small) (g .held .fit .bytes)
-
-    only : Only (z .d) w (word m′)
-    only = last-marked-only (s .here) (s .next) (z .d) m
-
-    latch : Latched (z .rs) (s .next) → Latch (word m′) (z .d) (z .rs) (s .next)
-    latch (inl e) = inl (e, ap eoq there ∙ eoq-lastMark (s .next) x ∙ rw (eq-eqb (s .next) 0 e) refl)
-    latch (inr e) = inr (e .0, ap eoq there ∙ eoq-lastMark (s .next) x ∙ rw (ne-eqb (s .next) 0 (e .1)) (i .taken .clean), e .1)
-
--- ---- step 5
-
-first-fine : (v : View) (g : Good v) (s : Stored) → Turn (v .common) (v .r) (v .common .m1) false
-    → AtFirst (v .store .lens) (wordsOf v) (leftR v) (v .r .hdp) (v .r .stage) s
-    → Fine v (takeMoved (markFirst (v .store .mem) s (v .r .hdp) (v .r .cp)) (ctlOf v) (v .store .mem))
-unfolding markFirst
-first-fine v g s t i =
-    let good : goodPtr (s .first) ≡ true = ap goodPtr (first .0) ∙ goodPtr-addr f (first .1) in
-    let here : wordOf (s .first) ≡ f = ap wordOf (first .0) ∙ wordOf-addr f in
-    rw (le-ltb lengthMax (s .stored) (i .short), good, here)
-    (wentR v m′ h (v .r .cp) (Done (record { next = s .next })) Quiet (s .stored)
-    (touchR v g [] f (top .fs) m′ only (marked-fits mark f m small (g .held .fit)) (setRegs h (v .r .cp) (v .r)) (top .is) (Done (record { next = s .next })) (added (v .received) (s .stored)) (turn-move t h false (λ m x. clash x refl))
-    (λ k. let there : word m′ (f + 3) ≡ mark x = marked-reads mark f m small (g .held .fit) (first .1) in
-    let r = owned-done (Fillable lens w) (Fillable lens (word m′)) w (word m′) (leftR v) (s .first) h (v .r .stage) (s .next) o f (top .fs) (top .is) (k .behind)
-    (ap eop there ∙ eop-firstMark (s .stored) (s .overrun) x short, ap eoq there ∙ eoq-firstMark (s .stored) (s .overrun) x short)
-    (ap td there ∙ td-firstMark (s .stored) (s .overrun) x short ∙ first .3) (ap owner there ∙ owner-firstMark (s .stored) (s .overrun) x)
-    (λ rs a y. fillable-same lens w (word m′) rs (all-map (Same w (word m′)) (Same3 w (word m′)) (same-same3 w (word m′)) rs a) y)
-    (λ rs y. fresh-live (word m′) Receive rs (y .fresh))
-    (record { fresh = refl; long = tt }) in
-    record { good = ap goodPtr (o .spot .here) ∙ goodPtr-addr (o .spot .d) (o .spot .small); stage = o .spot .stage; next = r .0; todo = r .1 }))
-    tt
-    (spared w (word m′) (modeOf v) (v .store .qr) (v .store .qt) (v .store .used) [] f (top .fs) (top .is) (sole-swapped (v .store .qt) (v .store .qr) (g .held .sole)) only))
-  where
-    w : ℕ → ℕ
-    w = wordsOf v
-
-    m : List ℕ
-    m = v .store .mem
-
-    lens : List ℕ
-    lens = v .store .lens
-
-    h : ℕ
-    h = v .r .hdp
-
-    o : Owned (Fillable lens w) w (leftR v) (s .first) h (v .r .stage) (s .next)
-    o = i .owned
-
-    top : Top (leftR v)
-    top = spot-is-top w (leftR v) (o .spot)
-
-    f : ℕ
-    f = top .f
-
-    first : (s .first ≡ addr f) × (f ≤ 2044) × (owner (w (f + 3)) ≡ true) × (td (w (f + 3)) ≡ false)
-    first = spot-top w (leftR v) (o .spot) top (left-linked v g)
-
-    x : ℕ
-    x = w (f + 3)
-
-    short : s .stored < 2048
-    short = omega (arith, i .short)
-
-    mark : ℕ → ℕ
-    mark y = firstMark (s .stored) (s .overrun) y
-
-    small : mark x < 2 ^ 32
-    small = firstMark-lt (s .stored) (s .overrun) x short (word-fits m (f + 3) (g .held .fit))
-
-    m′ : List ℕ
-    m′ = marked mark f m
-
-    only : Only f w (word m′)
-    only = marked-only mark f m
-
--- ---- step 6
-
-done-fine : (v : View) (g : Good v) (l : ℕ) → Turn (v .common) (v .r) (v .common .m1) false
-    → Through (Fillable (v .store .lens) (wordsOf v)) (leftR v) (v .r .hdp) (v .r .stage) l
-    → Fine v (takeMoved (finish l (v .r .hdp), v .store .mem) (ctlOf v) (v .store .mem))
-unfolding finish
-done-fine v g l t i = quietly v g (pick (eqb l 0) Idle Wait) l (v .r .hdp) (on-turn (eqb l 0) refl) (on (eqb l 0) refl)
-  where
-    fair : v .r .hdp ≢ tornDown
-    fair z = let b = goodPtr-bounds (v .r .hdp) (i .good) in omega (arith, z, b)
-
-    on-turn : (b : Bool) → eqb l 0 ≡ b → Turn (v .common) (setRegs l (v .r .hdp) (v .r)) (v .common .m1) (idleRx (pick b Idle Wait))
-    on-turn true e = turn-done t l true (λ m x. eqb-true l 0 e) (v .r .hdp) fair
-    on-turn false e = turn-done t l false (λ m x. clash x refl) (v .r .hdp) fair
-
-    on : (b : Bool) → eqb l 0 ≡ b → RxInv (v .store .lens) (wordsOf v) (leftR v) l (v .r .stage) (pick b Idle Wait)
-    on true e = start-zero (leftR v) (i .next ∙ eqb-true l 0 e)
-    on false e =
-        let n : start (leftR v) ≢ 0 = λ z. eqb-false l 0 e (sym (i .next) ∙ z) in
-        record { good = rw (i .next) at (good-start (wordsOf v) (leftR v) (left-linked v g) n); state = inl (i .stage, i .next, i .todo) }
-
--- ---- every step
-
-from-phase : (v : View) (g : Good v) (ph : Receiving) → Turn (v .common) (v .r) (v .common .m1) (idleRx ph)
-    → RxInv (v .store .lens) (wordsOf v) (leftR v) (v .r .hdp) (v .r .stage) ph
-    → Fine v (takeMoved (takeStep (v .store .mem) ph (v .r .hdp) (v .r .cp)) (ctlOf v) (v .store .mem))
-unfolding takeStep
-from-phase v g Idle t i = quietly v g Idle (v .r .hdp) (v .r .cp) (turn-stays t) i
-from-phase v g Wait t i = quietly v g Wait (v .r .hdp) (v .r .cp) (turn-stays t) i
-from-phase v g (Fetch f) t i = fetch-fine v g f t i
-from-phase v g (Moving s) t i = moving-fine v g s t i
-from-phase v g (Ended e) t i = ended-fine v g e t i
-from-phase v g (Last s) t i = last-fine v g s t i
-from-phase v g (First s) t i = first-fine v g s t i
-from-phase v g (Done l) t i = done-fine v g (l .next) t i
-
-pub receive-fine : (v : View) → Good v → Fine v (receiveStep (ctlOf v) (v .store .mem))
+pub receive-fine : (s : Machine) → Inv s → (ch : ℕ) → ch < channels → Fine s (receiveStep ch (s .ctl) (s .mem))
 unfolding receiveStep
-receive-fine v g = from-phase v g (v .rx) (g .turnR) (g .rx)
+receive-fine s i ch l =
+    let is = phase-queue Receive (s .ctl) ch in
+    let b = queue-lt Receive ch l in
+    from-phase s i ch l (rxOf (s .ctl) ch) (rw is at (i .turn (2 * ch + 1) b)) (rw is at (i .engine (2 * ch + 1) b))

@@ -1,29 +1,30 @@
 -- What a guard call that is refused leaves, whatever the world: "After 1, 2 .. nothing changes; .. after any other refusal of a
 -- guard call only the release below has happened". Assumes nothing.
---     Number n              a number that a judge may give: 0, or 3 to 21
---     pick-holds            what holds of both choices holds of the one that is taken
+--     refusals              the numbers that a judge may refuse with: a computed test tells them from all others
+--     Refuses n, Number n   n is one of them; or 0
+--     refuses-not           a number that is not among them
 --     Refusal s o           o refuses with such a number and leaves the world s as it is
 --     Verdict s o           o refuses so, or accepts
 --     judge-verdict, kind-verdict     every judge gives a verdict
 --     release-kinds         the release touches no kind
 --     Untouched s o         descriptor memory, kinds and registers are those of s, and the book is what the release makes of it
---     refused-write, refused-kind     a refused call leaves the released world: for every world, after 3 to 21
+--     refused-write, refused-kind     a refused call leaves the released world: for every world, after any number but 1 and 2
 --     unchanged-write, unchanged-kind and after 1 and 2 nothing has changed at all
 use Prim.Native.Nat.{ℕ, zero, suc, _+_, _-_, _/_, _%_, _≤_}
-use mathlib.Core.Path.{_≡_, refl, ap}
+use mathlib.Core.Path.{_≡_, refl, ap, _∙_, sym}
 use mathlib.Core.Bool.{Bool, true, false, not}
 use mathlib.Core.List.{List, [], _∷_}
 use mathlib.Core.Logic.{_⊎_, inl, inr, _≢_}
 use native.Mathlib.Omega.{arith}
 use lib.ListN.{length, getD}
 use lib.Dec.{eqb, ltb, leb}
-use borrow.Author.Tests.{eqb-false, leb-true}
-use Rattle.layout.specs.Choice.{pick, both, orElse}
+use borrow.Author.Tests.{ltb-true, ltb-false}
+use Rattle.layout.specs.Choice.{pick, both, orElse, every, some}
 use Rattle.layout.specs.Run.{Next, go, stop, after, runFor, run}
-use Rattle.layout.specs.Layout.{descFirst, addressEnd, goodPtr, wordOf, inDescriptors}
-use Rattle.layout.specs.Class.{classAt, hdpClass, cpClass, teardownClass, resetClass, passedClass, unofferedClass, unguardedClass}
+use Rattle.layout.specs.Layout.{descFirst, addressEnd, goodPtr, wordOf, inDescriptors, channels, queues, sideOf}
+use Rattle.layout.specs.Class.{classAt, hdpClass}
 use Rattle.layout.specs.declared.Side.{Side}
-use Rattle.layout.specs.declared.Side.the-variants.{Transmit, Receive}
+use Rattle.layout.proofs.ChoiceLaws.{clash, pick-holds}
 use Rattle.words.specs.Word.{word}
 use Rattle.words.specs.WordSet.{has, freeAt, freeCount}
 use Rattle.blocks.specs.Room.{roomOf, isFree}
@@ -31,34 +32,49 @@ use Rattle.descriptor.specs.Fields.{sop, eop, owner, eoq, td, packetLength, len
 use Rattle.descriptor.specs.Rules.{sideAt, offsetBad, flagsFault, endFlagsFault, lengthFault, endFault, sumAt, sumFault, behind, endsAt, nextFault}
 use Rattle.descriptor.specs.declared.Place.{Place}
 use Rattle.descriptor.specs.declared.Place.the-variants.{Start, Middle, Buffer}
-use Rattle.registers.specs.declared.Flags.{Flags}
-use Rattle.registers.specs.declared.Regs.{Regs}
-use Rattle.registers.specs.Pending.{queues, queueOf, tornDown, hdpOf, cpOf, tornOf, every, awaiting, anyTorn}
-use Rattle.registers.specs.Pending.{some as someOf}
-use Rattle.registers.specs.Rules.{byClass, zeroingFault, headFault, ackFault, teardownFault, resetFault, zeroFault, registerFault}
-use Rattle.chain.specs.Chain.{JSt, JOut, blockFault, descFault, judgeStep, chainOf}
-use Rattle.book.specs.World.{World, headOf, unfit, soundWorld, release}
+use Rattle.registers.specs.Table.{headOf, awaiting, headsOf, isDevice}
+use Rattle.registers.specs.Rules.{teardownDone, zeroingFault, headFault, ackFault, teardownFault, resetFault, zeroFault, headNumber, registerFault}
+use Rattle.registers.proofs.TableLaws.{isDevice-head}
+use Rattle.chain.specs.Chain.{JSt, JOut, placeOf, blockFault, descFault, judgeStep, chainOf}
+use Rattle.book.specs.declared.Mode.{Mode}
+use Rattle.book.specs.HandOver.{Uses}
+use Rattle.book.specs.Release.{releasedFrom, releasedAll, releaseMode, withHeads}
+use Rattle.book.specs.World.{World, unfit, soundWorld, release}
+use Rattle.queue.proofs.StateLaws.{withHeads-other, flags-other, release-parts}
+use Rattle.queue.proofs.CallLaws.{byClass-holds}
 use Rattle.guard.specs.declared.Answer.the-variants.{Accepted}
 use Rattle.guard.specs.declared.Effect.{Effect}
 use Rattle.guard.specs.Answers.{numberOf, Outcome, accept, refuse}
-use Rattle.guard.specs.Judges.{judgeStart, judgeHead, judgeRegister, isLast, judgeAppend, judgeLast, judgeWord, judgeClass, judge}
-use Rattle.guard.specs.Guard.{admitted, guestWrite, judgeKind, kindChange, mapBool, inReception}
+use Rattle.guard.specs.Judges.{judgeChain, judgeStart, judgeHead, judgeRegister, tailIn, judgeAppend, atTail, judgeLast, judgeWord, judgeClass, judge}
+use Rattle.guard.specs.declared.Tail.{Tail}
+use Rattle.guard.specs.declared.Tail.the-variants.{Of, Nobody}
+use Rattle.guard.specs.Guard.{admitted, guestWrite}
+use Rattle.kinds.specs.Kinds.{judgeKind, kindChange, mapBool, inReception}
 
 -- ---- the numbers
 
+-- "The lowest number that applies is given": those of a judge; 1 and 2 come before it, 22 to 24 are the model's
+abbrev pub refusals : List ℕ
+refusals = 3 ∷ 4 ∷ 5 ∷ 6 ∷ 7 ∷ 8 ∷ 9 ∷ 10 ∷ 11 ∷ 12 ∷ 13 ∷ 14 ∷ 15 ∷ 16 ∷ 17 ∷ 18 ∷ 19 ∷ 20 ∷ 21 ∷ []
+
+abbrev pub isIn : ℕ → List ℕ → Bool
+isIn n [] = false
+isIn n (x ∷ xs) = pick (eqb n x) true (isIn n xs)
+
+abbrev pub Refuses : ℕ → Type 0
+Refuses n = isIn n refusals ≡ true
+
 abbrev pub Number : ℕ → Type 0
-Number n = (n ≡ 0) ⊎ ((3 ≤ n) × (n ≤ 21))
+Number n = isIn n (0 ∷ refusals) ≡ true
+
+pub refuses-not : (n k : ℕ) → Refuses n → isIn k refusals ≡ false → n ≢ k
+refuses-not n k r e z = clash r (ap (λ (x : ℕ). isIn x refusals) z ∙ e)
+
+pub number-not : (n k : ℕ) → Number n → isIn k (0 ∷ refusals) ≡ false → n ≢ k
+number-not n k r e z = clash r (ap (λ (x : ℕ). isIn x (0 ∷ refusals)) z ∙ e)
 
 none : Number 0
-none = inl refl
-
--- one of 3 to 21
-some : (n : ℕ) → leb 3 n ≡ true → leb n 21 ≡ true → Number n
-some n p q = inr (leb-true 3 n p, leb-true n 21 q)
-
-pub pick-holds : {A : Type 0} (P : A → Type 0) (t : Bool) (x y : A) → P x → P y → P (pick t x y)
-pick-holds P true x y p q = p
-pick-holds P false x y p q = q
+none = refl
 
 pick-number : (t : Bool) (x y : ℕ) → Number x → Number y → Number (pick t x y)
 pick-number t x y p q = pick-holds Number t x y p q
@@ -67,86 +83,72 @@ orElse-number : (x y : ℕ) → Number x → Number y → Number (orElse x y)
 orElse-number x y p q = pick-number (eqb x 0) y x q p
 
 zeroing-number : (v : ℕ) → Number (zeroingFault v)
-zeroing-number v = pick-number (eqb v 0) 0 6 none (inr (omega arith, omega arith))
+zeroing-number v = pick-number (eqb v 0) 0 6 none refl
 
-headFault-number : (f : Flags) (r : Regs) (q v : ℕ) → Number (headFault f r q v)
+headFault-number : (a r t : Bool) (h v : ℕ) → Number (headFault a r t h v)
 unfolding headFault
-headFault-number f r q v =
-    pick-number (awaiting f) _ _ (zeroing-number v)
-    (pick-number (f .reset) _ _ (some 7 refl refl)
-    (pick-number (tornOf f q) _ _ (some 8 refl refl)
-    (pick-number (eqb v 0) _ _ (some 9 refl refl) (pick-number (eqb (hdpOf r q) 0) _ _ none (some 10 refl refl)))))
+headFault-number a r t h v =
+    pick-number a _ _ (zeroing-number v)
+    (pick-number r _ _ refl
+    (pick-number t _ _ refl
+    (pick-number (eqb v 0) _ _ refl (pick-number (eqb h 0) _ _ none refl))))
 
-ackFault-number : (f : Flags) (v : ℕ) → Number (ackFault f v)
+ackFault-number : (a : Bool) (v : ℕ) → Number (ackFault a v)
 unfolding ackFault
-ackFault-number f v = pick-number (awaiting f) _ _ (zeroing-number v) none
+ackFault-number a v = pick-number a _ _ (zeroing-number v) none
 
-teardownFault-number : (f : Flags) (r : Regs) (q v : ℕ) → Number (teardownFault f r q v)
+teardownFault-number : (a r t : Bool) (c v : ℕ) → Number (teardownFault a r t c v)
 unfolding teardownFault
-teardownFault-number f r q v =
-    pick-number (awaiting f) _ _ (some 6 refl refl)
-    (pick-number (f .reset) _ _ (some 7 refl refl)
-    (pick-number (tornOf f q) _ _ (some 8 refl refl)
-    (pick-number (eqb v 0) _ _ (pick-number (eqb (cpOf r q) tornDown) _ _ (some 10 refl refl) none) (some 9 refl refl))))
+teardownFault-number a r t c v =
+    pick-number a _ _ refl
+    (pick-number r _ _ refl
+    (pick-number t _ _ refl
+    (pick-number (ltb v channels) _ _ (pick-number (eqb c teardownDone) _ _ refl none) refl)))
 
-resetFault-number : (f : Flags) (v : ℕ) → Number (resetFault f v)
+resetFault-number : (a r t : Bool) (v : ℕ) → Number (resetFault a r t v)
 unfolding resetFault
-resetFault-number f v =
-    pick-number (awaiting f) _ _ (some 6 refl refl)
-    (pick-number (f .reset) _ _ (some 7 refl refl)
-    (pick-number (anyTorn f) _ _ (some 8 refl refl) (pick-number (eqb v 1) _ _ none (some 9 refl refl))))
+resetFault-number a r t v =
+    pick-number a _ _ refl (pick-number r _ _ refl (pick-number t _ _ refl (pick-number (eqb v 1) _ _ none refl)))
 
 zeroFault-number : (v : ℕ) → Number (zeroFault v)
 unfolding zeroFault
-zeroFault-number v = pick-number (eqb v 0) _ _ none (some 9 refl refl)
+zeroFault-number v = pick-number (eqb v 0) _ _ none refl
 
-byClass-number : (n : ℕ) (a b c : ℕ → ℕ) (d e f g h : ℕ) → ((q : ℕ) → Number (a q)) → ((q : ℕ) → Number (b q)) → ((q : ℕ) → Number (c q))
-    → Number d → Number e → Number f → Number g → Number h → Number (byClass n a b c d e f g h)
-unfolding byClass
-byClass-number n a b c d e f g h pa pb pc pd pe pf pg ph =
-    pick-number (ltb n (hdpClass + queues)) _ _ (pa (n - hdpClass))
-    (pick-number (both (leb cpClass n) (ltb n (cpClass + queues))) _ _ (pb (n - cpClass))
-    (pick-number (both (leb teardownClass n) (ltb n (teardownClass + queues))) _ _ (pc (n - teardownClass))
-    (pick-number (eqb n resetClass) _ _ pd
-    (pick-number (both (ltb resetClass n) (ltb n passedClass)) _ _ pe
-    (pick-number (both (leb passedClass n) (ltb n unofferedClass)) _ _ pf
-    (pick-number (both (leb unofferedClass n) (ltb n unguardedClass)) _ _ pg ph))))))
-
-registerFault-number : (f : Flags) (r : Regs) (n v : ℕ) → Number (registerFault f r n v)
+registerFault-number : (t : List ℕ) (n v : ℕ) → Number (registerFault t n v)
 unfolding registerFault
-registerFault-number f r n v =
-    byClass-number n _ _ _ _ _ _ _ _ (λ q. headFault-number f r q v) (λ q. ackFault-number f v) (λ q. teardownFault-number f r q v) (resetFault-number f v) (zeroFault-number v) none (some 5 refl refl) (some 4 refl refl)
+registerFault-number t n v =
+    byClass-holds Number n _ _ _ _ _ _ _ _ (λ h. headFault-number _ _ _ _ v) (λ q h. ackFault-number _ v) (λ x h. teardownFault-number _ _ _ _ v) (resetFault-number _ _ _ v) (zeroFault-number v) none refl refl
 
 -- ---- a chain: 12 to 17
 
 endFlags-number : (x3 : ℕ) → Number (endFlagsFault x3)
-endFlags-number x3 = pick-number (eoq x3) _ _ (some 14 refl refl) (pick-number (td x3) _ _ (some 14 refl refl) none)
+endFlags-number x3 = pick-number (eoq x3) _ _ refl (pick-number (td x3) _ _ refl none)
 
 flagsFault-number : (pl : Place) (x3 : ℕ) → Number (flagsFault pl x3)
 unfolding flagsFault
 flagsFault-number Start x3 =
-    pick-number (sop x3) _ _ (pick-number (owner x3) _ _ (endFlags-number x3) (some 14 refl refl)) (some 14 refl refl)
-flagsFault-number (Middle s n) x3 = pick-number (sop x3) _ _ (some 14 refl refl) (endFlags-number x3)
+    pick-number (sop x3) _ _ (pick-number (owner x3) _ _ (endFlags-number x3) refl) refl
+flagsFault-number (Middle s n) x3 = pick-number (sop x3) _ _ refl (endFlags-number x3)
 flagsFault-number Buffer x3 =
     pick-number (owner x3) _ _
-    (pick-number (sop x3) _ _ (some 14 refl refl) (pick-number (eop x3) _ _ (some 14 refl refl) (endFlags-number x3)))
-    (some 14 refl refl)
+    (pick-number (sop x3) _ _ refl (pick-number (eop x3) _ _ refl (endFlags-number x3)))
+    refl
 
 lengthFault-number : (side : Side) (x1 x2 x3 : ℕ) → Number (lengthFault side x1 x2 x3)
 unfolding lengthFault
 lengthFault-number side x1 x2 x3 =
-    pick-number (eqb (lengthOf side x2) 0) _ _ (some 15 refl refl)
-    (pick-number (offsetBad side x2) _ _ (some 15 refl refl)
-    (pick-number (ltb addressEnd (firstByte side x1 x2 x3 + lengthOf side x2)) _ _ (some 15 refl refl) none))
+    pick-number (eqb (lengthOf side x2) 0) _ _ refl
+    (pick-number (offsetBad side x2) _ _ refl
+    (pick-number (ltb addressEnd (firstByte side x1 x2 x3 + lengthOf side x2)) _ _ refl none))
 
 blockFault-number : (kinds : List ℕ) (side : Side) (x1 x2 x3 : ℕ) → Number (blockFault kinds side x1 x2 x3)
 unfolding blockFault
 blockFault-number kinds side x1 x2 x3 =
-    pick-number (isFree (roomOf side kinds (firstByte side x1 x2 x3) (lengthOf side x2))) _ _ none (some 16 refl refl)
+    pick-number (isFree (roomOf side kinds (firstByte side x1 x2 x3) (lengthOf side x2))) _ _ none refl
 
 endFault-number : (s n : ℕ) → Number (endFault s n)
 unfolding endFault
-endFault-number s n = pick-number (eqb n (packetLength s)) _ _ none (some 17 refl refl)
+endFault-number s n = pick-number (eqb n (packetLength s)) _ _ none refl
 
 sumFault-number : (pl : Place) (x2 x3 : ℕ) → Number (sumFault pl x2 x3)
 unfolding sumFault
@@ -156,7 +158,7 @@ sumFault-number Buffer x2 x3 = none
 
 endsAt-number : (pl : Place) → Number (endsAt pl)
 endsAt-number Start = none
-endsAt-number (Middle s n) = some 17 refl refl
+endsAt-number (Middle s n) = refl
 endsAt-number Buffer = none
 
 nextFault-number : (pl : Place) (x0 : ℕ) → Number (nextFault pl x0)
@@ -200,8 +202,8 @@ judgeStep-number kinds w s =
     (stops (eqb (descFault kinds w (s .0) (wordOf (s .2))) 0) _ _
     (stops (eqb (w (wordOf (s .2))) 0) _ _ none tt)
     (descFault-number kinds w (s .0) (wordOf (s .2))))
-    (some 13 refl refl))
-    (some 12 refl refl)
+    refl)
+    refl
   where
     stops : (t : Bool) (x y : Next JSt JOut) → Stops Numbered x → Stops Numbered y → Stops Numbered (pick t x y)
     stops t x y p q = pick-holds (Stops Numbered) t x y p q
@@ -213,10 +215,10 @@ chainOf-number kinds w pl met p =
 
 -- ---- a verdict
 
+-- "this number, that world"
 pub record Refusal (s : World) (o : Outcome) : Type 0 where
   pub number : ℕ
-  pub low : 3 ≤ number
-  pub high : number ≤ 21
+  pub told : Refuses number
   pub is : o ≡ refuse number s
 
 pub record Acceptance (o : Outcome) : Type 0 where
@@ -226,8 +228,8 @@ pub record Acceptance (o : Outcome) : Type 0 where
 abbrev pub Verdict : World → Outcome → Type 0
 Verdict s o = Refusal s o ⊎ Acceptance o
 
-refused : (s : World) (n : ℕ) → leb 3 n ≡ true → leb n 21 ≡ true → Verdict s (refuse n s)
-refused s n p q = inl (record { number = n; low = leb-true 3 n p; high = leb-true n 21 q; is = refl })
+refused : (s : World) (n : ℕ) → Refuses n → Verdict s (refuse n s)
+refused s n p = inl (record { number = n; told = p; is = refl })
 
 accepted : (s : World) (e : Effect) (t : World) → Verdict s (accept e t)
 accepted s e t = inr (record { effect = e; is = refl })
@@ -237,42 +239,45 @@ verdict-pick s t x y p q = pick-holds (Verdict s) t x y p q
 
 -- a fault that is 0 lets the write pass
 verdict-fault : (s : World) (n : ℕ) (x : Outcome) → Number n → Verdict s x → Verdict s (pick (eqb n 0) x (refuse n s))
-verdict-fault s n x k v = at (eqb n 0) refl k
+verdict-fault s n x k v = at (eqb n 0) k
   where
-    at : (t : Bool) → eqb n 0 ≡ t → Number n → Verdict s (pick t x (refuse n s))
-    at true e k = v
-    at false e (inl z) = absurd (eqb-false n 0 e z)
-    at false e (inr b) = inl (record { number = n; low = b .0; high = b .1; is = refl })
+    at : (t : Bool) → pick t true (isIn n refusals) ≡ true → Verdict s (pick t x (refuse n s))
+    at true e = v
+    at false e = inl (record { number = n; told = e; is = refl })
 
 start-verdict : (q p : ℕ) (s : World) → Verdict s (judgeStart q p s)
-start-verdict q p s = verdict-fault s _ _ (chainOf-number _ _ _ _ _) (accepted s _ _)
+start-verdict q p s =
+    verdict-fault s (judgeChain (sideOf q) p s .0) _ (chainOf-number (s .kinds) (word (s .mem)) (placeOf (sideOf q)) (s .used) p) (accepted s _ _)
 
 head-verdict : (q v : ℕ) (s : World) → Verdict s (judgeHead q v s)
 unfolding judgeHead
 head-verdict q v s =
-    verdict-fault s _ _ (headFault-number _ _ _ _)
-    (verdict-pick s (awaiting (s .book .flags)) _ _ (accepted s _ _)
-    (verdict-pick s (eqb (headOf s q) 0) _ _ (start-verdict q v s) (refused s 10 refl refl)))
+    verdict-fault s (headNumber (s .state) q v) _ (headFault-number _ _ _ _ v)
+    (verdict-pick s (awaiting (s .state)) _ _ (accepted s _ _)
+    (verdict-pick s (eqb (headOf (s .state) q) 0) _ _ (start-verdict q v s) (refused s 10 refl)))
 
 register-verdict : (n v : ℕ) (s : World) → Verdict s (judgeRegister n v s)
 unfolding judgeRegister
-register-verdict n v s = verdict-fault s _ _ (registerFault-number _ _ _ _) (accepted s _ _)
+register-verdict n v s = verdict-fault s (registerFault (s .state) n v) _ (registerFault-number (s .state) n v) (accepted s _ _)
 
-append-verdict : (side : Side) (k p : ℕ) (s : World) → Verdict s (judgeAppend side k p s)
+append-verdict : (q k p : ℕ) (s : World) → Verdict s (judgeAppend q k p s)
 unfolding judgeAppend
-append-verdict side k p s = verdict-fault s _ _ (chainOf-number _ _ _ _ _) (accepted s _ _)
+append-verdict q k p s =
+    verdict-fault s (judgeChain (sideOf q) p s .0) _ (chainOf-number (s .kinds) (word (s .mem)) (placeOf (sideOf q)) (s .used) p) (accepted s _ _)
 
 last-verdict : (k v : ℕ) (s : World) → Verdict s (judgeLast k v s)
 unfolding judgeLast
-last-verdict k v s =
-    verdict-pick s (isLast (word (s .mem)) (headOf s (queueOf Transmit)) k) _ _ (append-verdict Transmit k v s)
-    (verdict-pick s (isLast (word (s .mem)) (headOf s (queueOf Receive)) k) _ _ (append-verdict Receive k v s) (refused s 11 refl refl))
+last-verdict k v s = at (tailIn (word (s .mem)) k 0 (headsOf (s .state)))
+  where
+    at : (t : Tail) → Verdict s (atTail t (λ q. judgeAppend q k v s) (refuse 11 s))
+    at Nobody = refused s 11 refl
+    at (Of q) = append-verdict q k v s
 
 word-verdict : (k v : ℕ) (s : World) → Verdict s (judgeWord k v s)
 unfolding judgeWord
 word-verdict k v s =
     verdict-pick s (has (s .used) k) _ _
-    (verdict-pick s (both (eqb (word (s .mem) k) 0) (not (eqb v 0))) _ _ (last-verdict k v s) (refused s 11 refl refl))
+    (verdict-pick s (both (eqb (word (s .mem) k) 0) (not (eqb v 0))) _ _ (last-verdict k v s) (refused s 11 refl))
     (accepted s _ _)
 
 class-verdict : (n v : ℕ) (s : World) → Verdict s (judgeClass n v s)
@@ -284,26 +289,26 @@ unfolding judge
 judge-verdict a v s =
     verdict-pick s (eqb (a % 4) 0) _ _
     (verdict-pick s (inDescriptors a) _ _ (word-verdict ((a - descFirst) / 4) v s) (class-verdict (classAt a) v s))
-    (refused s 3 refl refl)
+    (refused s 3 refl)
 
 pub kind-verdict : (bs : List ℕ) (k : ℕ) (s : World) → Verdict s (judgeKind bs k s)
 unfolding judgeKind
 kind-verdict bs k s =
     verdict-pick s (every (mapBool (λ b. ltb b (length (s .kinds))) bs)) _ _
     (verdict-pick s (both (leb 1 k) (leb k 4)) _ _
-    (verdict-pick s (someOf (mapBool (λ b. eqb (getD (s .kinds) b 0) 0) bs)) _ _ (refused s 20 refl refl)
-    (verdict-pick s (both (not (eqb k 1)) (someOf (mapBool (λ b. inReception (word (s .mem)) (s .lens) b) bs))) _ _ (refused s 21 refl refl) (accepted s _ _)))
-    (refused s 19 refl refl))
-    (refused s 18 refl refl)
+    (verdict-pick s (some (mapBool (λ b. eqb (getD (s .kinds) b 0) 0) bs)) _ _ (refused s 20 refl)
+    (verdict-pick s (both (not (eqb k 1)) (some (mapBool (λ b. inReception (word (s .mem)) (s .lens) b) bs))) _ _ (refused s 21 refl) (accepted s _ _)))
+    (refused s 19 refl))
+    (refused s 18 refl)
 
 -- ---- a whole call
 
--- only the release has happened: it changes nothing but the book
+-- only the release has happened: it changes nothing but the book, and in the small state no register
 pub record Untouched (s : World) (o : Outcome) : Type 0 where
   pub mem : o .world .mem ≡ s .mem
   pub kinds : o .world .kinds ≡ s .kinds
-  pub regs : o .world .regs ≡ s .regs
-  pub book : o .world .book ≡ release s .book
+  pub registers : (k : ℕ) → isDevice k ≡ true → getD (o .world .state) k 0 ≡ getD (s .state) k 0
+  pub state : o .world .state ≡ release s .state
   pub used : o .world .used ≡ release s .used
   pub lens : o .world .lens ≡ release s .lens
 
@@ -311,13 +316,31 @@ pub release-kinds : (s : World) → release s .kinds ≡ s .kinds
 unfolding release
 release-kinds s = refl
 
+-- as many heads are left as there were
+length-heads : (w : ℕ → ℕ) (mode : Mode) (hs : List ℕ) (u : Uses) → length (releasedAll w mode hs u .0) ≡ length hs
+unfolding releasedAll
+length-heads w mode [] u = refl
+length-heads w mode (h ∷ hs) u = ap suc (length-heads w mode hs (releasedFrom w u h mode .1))
+
+release-registers : (s : World) (k : ℕ) → isDevice k ≡ true → getD (release s .state) k 0 ≡ getD (s .state) k 0
+release-registers s k d =
+    let w = word (s .mem) in
+    let r = releasedAll w (releaseMode (s .state)) (headsOf (s .state)) (s .used, s .lens) in
+    ap (λ (t : World). getD (t .state) k 0) (release-parts s (r .0) (r .1) refl)
+    ∙ flags-other (withHeads (r .0) (s .state)) k (λ e. clash d (ap isDevice e)) (λ e. clash d (ap isDevice e)) (λ e. clash d (ap isDevice e))
+    ∙ withHeads-other (r .0) (s .state) (length-heads w (releaseMode (s .state)) (headsOf (s .state)) (s .used, s .lens)) k (past (ltb k queues) refl)
+  where
+    past : (b : Bool) → ltb k queues ≡ b → queues ≤ k
+    past true e = clash d (isDevice-head k (ltb-true k queues e))
+    past false e = ltb-false k queues e
+
 release-untouched : (s : World) (o : Outcome) → o .world ≡ release s → Untouched s o
 unfolding release
 release-untouched s o e = record {
   mem = ap (λ (t : World). t .mem) e;
   kinds = ap (λ (t : World). t .kinds) e;
-  regs = ap (λ (t : World). t .regs) e;
-  book = ap (λ (t : World). t .book) e;
+  registers = λ k d. ap (λ (t : World). getD (t .state) k 0) e ∙ release-registers s k d;
+  state = ap (λ (t : World). t .state) e;
   used = ap (λ (t : World). t .used) e;
   lens = ap (λ (t : World). t .lens) e;
 }
@@ -326,7 +349,7 @@ release-untouched s o e = record {
 abbrev Leaves : World → Outcome → Type 0
 Leaves s o =
     ((numberOf (o .answer) ≡ 1 → o ≡ refuse 1 s) × (numberOf (o .answer) ≡ 2 → o ≡ refuse 2 s))
-    × (numberOf (o .answer) ≢ 0 → numberOf (o .answer) ≢ 1 → numberOf (o .answer) ≢ 2 → (Untouched s o) × (numberOf (o .answer) ≤ 21))
+    × (numberOf (o .answer) ≢ 0 → numberOf (o .answer) ≢ 1 → numberOf (o .answer) ≢ 2 → (Untouched s o) × Refuses (numberOf (o .answer)))
 
 admitted-leaves : (s : World) (act : World → Outcome) → ((t : World) → Verdict t (act t)) → Leaves s (admitted s act)
 unfolding admitted
@@ -339,8 +362,8 @@ admitted-leaves s act verdict =
     judged : (o : Outcome) → Verdict (release s) o → Leaves s o
     judged o (inl r) =
         let n : numberOf (o .answer) ≡ r .number = ap (λ (x : Outcome). numberOf (x .answer)) (r .is) in (
-          ((λ e. absurd (omega (arith, e, n, r .low))), (λ e. absurd (omega (arith, e, n, r .low)))),
-          (λ a b c. (release-untouched s o (ap (λ (x : Outcome). x .world) (r .is)), omega (arith, n, r .high))),
+          ((λ e. absurd (refuses-not (r .number) 1 (r .told) refl (sym n ∙ e))), (λ e. absurd (refuses-not (r .number) 2 (r .told) refl (sym n ∙ e)))),
+          (λ a b c. (release-untouched s o (ap (λ (x : Outcome). x .world) (r .is)), rw n (r .told))),
         )
     judged o (inr x) =
         let n : numberOf (o .answer) ≡ 0 = ap numberOf (x .is) in

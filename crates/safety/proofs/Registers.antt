@@ -1,43 +1,49 @@
 -- Accepted writes to registers other than a start: zeros while initialisation is awaited, the acknowledgement of CP, teardown,
--- reset, and those with no effect. Each takes a released view to a released view. Assumes nothing.
---     withPosts               the view with other registers, pending flags and marks
---     tx-idle, rx-idle        the clause of an idle engine looks at no register
---     mark-calm               "0 is accepted, stored and marks it": any marks and registers, as long as a marked HDP is 0
---     ackT-calm, ackR-calm    "a value equal to the CP sets it to 0"
---     tearT-calm, tearR-calm, reset-calm   "Teardown and reset become pending in book and model, reset also sets its bit"
---     rewritten w u           the machine of a released view with the flags and registers w, in book and controller
---     register-inv            the class of any register but HDP: a write without fault leaves the invariant
---     zeroes-inv              and so does the zero of an HDP
-use Prim.Native.Nat.{ℕ, zero, suc, _-_, _≤_, _<_}
-use mathlib.Core.Path.{_≡_, refl, _∙_, sym}
+-- reset, and those with no effect. Each takes a calm machine to a calm one, for any queue. Assumes nothing.
+--     serves-idle             the clause of an idle engine looks at no register
+--     rewritten t u s         the machine with the small state t and the controller's table u
+--     Goes s u                what is asked of the controller's table u beside engines and queues
+--     still-goes              the own table has it
+--     zero-goes               "0 is accepted, stored and marks it": any marks and registers, as long as a marked HDP is 0
+--     ack-goes                "a value equal to the CP sets it to 0"
+--     tear-goes, reset-goes   "Teardown and reset become pending in book and model, reset also sets its bit"
+--     written-fits            a register write keeps a table's size, its flags and its heads
+--     calm-alike              what the rules read of the small state is the controller's
+--     register-calm           a write without fault that starts no engine
+use Prim.Native.Nat.{ℕ, zero, suc, _+_, _-_, _≤_, _<_}
+use mathlib.Core.Path.{_≡_, refl, ap, _∙_, sym}
 use mathlib.Core.Bool.{Bool, true, false}
-use mathlib.Core.List.{List, [], _∷_}
+use mathlib.Core.List.{List}
 use mathlib.Core.Logic.{_≢_}
 use native.Mathlib.Omega.{arith}
+use lib.ListN.{length, getD}
 use lib.Dec.{eqb, ltb}
-use borrow.Author.Tests.{eqb-true, eqb-false, ltb-true, ltb-false}
-use Rattle.layout.specs.Choice.{pick}
-use Rattle.layout.proofs.ChoiceLaws.{clash, want, shun}
-use Rattle.registers.specs.declared.Flags.{Flags}
-use Rattle.registers.specs.declared.Regs.{Regs}
-use Rattle.registers.specs.declared.Written.{Written}
-use Rattle.registers.specs.Pending.{tornDown, awaiting, anyTorn}
-use Rattle.registers.specs.Rules.{headFault, teardownFault, resetFault, registerFault, headWritten, ackWritten, teardownWritten, resetWritten, written}
-use Rattle.registers.proofs.RegisterLaws.{byClass-low, byClass-ack, byClass-mid, byClass-teardown, byClass-reset, byClass-rest}
-use Rattle.queue.specs.Queue.{start}
+use borrow.Author.Tests.{eqb-true, eqb-false, ltb-true, ltb-false, lt-ltb, not-false}
+use Rattle.layout.specs.Bits.{bit, setBit}
+use Rattle.layout.specs.Layout.{queues, marks}
+use Rattle.layout.specs.Class.{hdpClass}
+use Rattle.layout.proofs.ChoiceLaws.{clash, pick-holds}
+use Rattle.layout.proofs.BitLaws.{bit-setBit-other}
+use Rattle.registers.specs.Table.{stateWords, marksAt, resetAt, bitAt, headOf, hdpOf, cpOf, marksOf, tearingsOf, tearingOf, awaiting, anyTearing, resetOf, bitOf, setHdp, setCp, setMarks, setMark, setTearings, setTearing, setReset, isDevice, flagsFit}
+use Rattle.registers.specs.Rules.{teardownDone, tearQueue, headNumber, registerFault, headWritten, ackWritten, resetWritten, written}
+use Rattle.registers.proofs.TableLaws.{length-setHdp, headOf-setHdp, hdpOf-setHdp-same, hdpOf-setHdp-other, marksOf-setHdp, tearingsOf-setHdp, resetOf-setHdp, bitOf-setHdp, length-setCp, headOf-setCp, hdpOf-setCp, cpOf-setCp-same, cpOf-setCp-other, marksOf-setCp, awaiting-setCp, tearingsOf-setCp, tearingOf-setCp, resetOf-setCp, bitOf-setCp, length-setMarks, headOf-setMarks, hdpOf-setMarks, marksOf-setMarks, tearingsOf-setMarks, resetOf-setMarks, bitOf-setMarks, length-setTearings, headOf-setTearings, hdpOf-setTearings, cpOf-setTearings, marksOf-setTearings, awaiting-setTearings, resetOf-setTearings, bitOf-setTearings, tearingOf-setTearing-same, tearingOf-setTearing-other, length-setReset, headOf-setReset, hdpOf-setReset, marksOf-setReset, awaiting-setReset, resetOf-setReset, tearingOf-setReset, length-setResetBit, headOf-setResetBit, hdpOf-setResetBit, marksOf-setResetBit, awaiting-setResetBit, tearingOf-setResetBit, resetOf-setResetBit, bitOf-setResetBit, anyTearing-none, getD-loaded, isDevice-register, flagsFit-setHdp, flagsFit-setCp, flagsFit-setResetBit, flagsFit-setReset, flagsFit-setMark, flagsFit-setTearing}
+use Rattle.registers.proofs.RegisterLaws.{headWritten-zero, ackWritten-zero, ackWritten-same, ackWritten-other, tearQueue-lt, headFault-zero, teardownFault-none, resetFault-none}
+use Rattle.queue.proofs.NumberLaws.{each, queueAt}
+use Rattle.queue.proofs.CallLaws.{byClass-holds, byClass-both}
 use Rattle.phases.specs.declared.Sending.{Sending}
 use Rattle.phases.specs.declared.Sending.the-variants as S
 use Rattle.phases.specs.declared.Receiving.{Receiving}
 use Rattle.phases.specs.declared.Receiving.the-variants as R
-use Rattle.controller.specs.Controller.{setRegs, setFlags}
+use Rattle.controller.specs.Controller.{stageOf, setState, startsEngine}
 use Rattle.machine.specs.Machine.{Machine}
-use Rattle.safety.proofs.View.{Post, Common, View, ctlOf, regsOf, flagsOf, waiting, wordsOf}
-use Rattle.safety.proofs.Inv.{TxInv, idleTx, RxInv, idleRx, Inv}
-use Rattle.safety.proofs.Calm.{Duty, Calm, calm-inv}
+use Rattle.safety.proofs.Inv.{TxInv, idleTx, RxInv, idleRx, Phase, sending, taking, phaseOf, idle, Serves, postOf, commonOf, wordsOf, Table}
+use Rattle.safety.proofs.Touch.{phase-channels, table-fits, fits-table}
+use Rattle.safety.proofs.Calm.{Duty, Calm, Loaded}
+use Rattle.safety.proofs.Allowed.{Alike, marks-alike, tearings-alike, reset-alike, written-alike}
 
 -- ---- an idle engine
 
-pub tx-idle : (K : List ℕ) (w : ℕ → ℕ) (L : List ℕ) (h n h′ : ℕ) (ph : Sending) → idleTx ph ≡ true → TxInv K w L h n ph → TxInv K w L h′ n ph
+tx-idle : (K : List ℕ) (w : ℕ → ℕ) (L : List ℕ) (h n h′ : ℕ) (ph : Sending) → idleTx ph ≡ true → TxInv K w L h n ph → TxInv K w L h′ n ph
 tx-idle K w L h n h′ S.Idle e t = t
 tx-idle K w L h n h′ S.New e t = clash e refl
 tx-idle K w L h n h′ (S.Within p) e t = clash e refl
@@ -47,7 +53,7 @@ tx-idle K w L h n h′ (S.Marking c) e t = clash e refl
 tx-idle K w L h n h′ (S.Owning c) e t = clash e refl
 tx-idle K w L h n h′ (S.Done l) e t = clash e refl
 
-pub rx-idle : (lens : List ℕ) (w : ℕ → ℕ) (L : List ℕ) (h n h′ : ℕ) (ph : Receiving) → idleRx ph ≡ true → RxInv lens w L h n ph → RxInv lens w L h′ n ph
+rx-idle : (lens : List ℕ) (w : ℕ → ℕ) (L : List ℕ) (h n h′ : ℕ) (ph : Receiving) → idleRx ph ≡ true → RxInv lens w L h n ph → RxInv lens w L h′ n ph
 rx-idle lens w L h n h′ R.Idle e t = t
 rx-idle lens w L h n h′ R.Wait e t = clash e refl
 rx-idle lens w L h n h′ (R.Fetch f) e t = clash e refl
@@ -57,241 +63,291 @@ rx-idle lens w L h n h′ (R.Last s) e t = clash e refl
 rx-idle lens w L h n h′ (R.First s) e t = clash e refl
 rx-idle lens w L h n h′ (R.Done l) e t = clash e refl
 
--- ---- the changes
+serves-idle : (K lens : List ℕ) (w : ℕ → ℕ) (L : List ℕ) (h n h′ : ℕ) (ph : Phase) → idle ph ≡ true → Serves K lens w L h n ph → Serves K lens w L h′ n ph
+serves-idle K lens w L h n h′ (sending ph) e t = tx-idle K w L h n h′ ph e t
+serves-idle K lens w L h n h′ (taking ph) e t = rx-idle lens w L h n h′ ph e t
 
-abbrev pub withPosts : Post → Post → Common → View → View
-withPosts p q c u = record {
-  store = u .store;
-  t = p;
-  r = q;
-  common = c;
-  tx = u .tx;
-  rx = u .rx;
-  sent = u .sent;
-  received = u .received;
-}
+-- ---- what is asked of the controller's table
 
-abbrev holds : ℕ → ℕ → Post → Post
-holds h c p = record { hdp = h; cp = c; stage = p .stage; booked = p .booked; torn = p .torn }
+abbrev pub rewritten : List ℕ → List ℕ → Machine → Machine
+rewritten t u s = record { ctl = setState u (s .ctl); mem = s .mem; kinds = s .kinds; state = t; used = s .used; lens = s .lens }
 
-abbrev tears : Post → Post
-tears p = record { hdp = p .hdp; cp = p .cp; stage = p .stage; booked = p .booked; torn = true }
+record Goes (s : Machine) (u : List ℕ) : Type 0 where
+  bits : bitOf u ≡ resetOf u
+  ready : resetOf u ≡ true → awaiting u ≡ false
+  duty : (q : ℕ) → q < queues → Duty (commonOf (rewritten u u s)) (postOf (rewritten u u s) q) (idle (phaseOf (s .ctl) q))
+  hdp : (q : ℕ) → q < queues → idle (phaseOf (s .ctl) q) ≡ false → hdpOf u q ≡ hdpOf (s .ctl .state) q
 
-abbrev marks : Bool → Bool → Bool → Bool → Common → Common
-marks m0 m1 m2 m3 c = record { bit = c .bit; bookReset = c .bookReset; bookMarks = c .bookMarks; reset = c .reset; m0 = m0; m1 = m1; m2 = m2; m3 = m3 }
+module _ (s : Machine) (c : Calm s) where
+  abbrev u : List ℕ
+  u = s .ctl .state
 
-abbrev resets : Common → Common
-resets c = record { bit = true; bookReset = c .bookReset; bookMarks = c .bookMarks; reset = true; m0 = c .m0; m1 = c .m1; m2 = c .m2; m3 = c .m3 }
+  size : length u ≡ stateWords
+  size = c .sized .ctl .size
 
--- while a zero is awaited no teardown is pending and the engine is idle
-duty-mark : {reset waits mark idle : Bool} {p : Post} → Duty reset waits p mark idle → waits ≡ true → (h c : ℕ) (waits′ mark′ : Bool) → (mark′ ≡ true → h ≡ 0)
-    → Duty reset waits′ (holds h c p) mark′ idle
-duty-mark d w h c waits′ mark′ z = record {
-  young = λ e. clash w (d .ready e);
-  stage = d .stage;
-  alone = d .alone;
-  ready = λ e. clash w (d .ready e);
-  asleep = λ e. d .asleep w;
-  zeroed = λ m e. z m;
-}
+  duty-of : (q : ℕ) → q < queues → Duty (commonOf (rewritten u u s)) (postOf (rewritten u u s) q) (idle (phaseOf (s .ctl) q))
+  duty-of q h =
+      let d = c .duty q h in
+      record { young = d .young; stage = d .stage; alone = d .alone; ready = d .ready; asleep = d .asleep; zeroed = d .zeroed }
 
-pub mark-calm : (u : View) → Calm u → waiting (u .common) ≡ true → (ht ct hr cr : ℕ) (m0 m1 m2 m3 : Bool) → (m0 ≡ true → ht ≡ 0) → (m1 ≡ true → hr ≡ 0)
-    → Calm (withPosts (holds ht ct (u .t)) (holds hr cr (u .r)) (marks m0 m1 m2 m3 (u .common)) u)
-mark-calm u c w ht ct hr cr m0 m1 m2 m3 z0 z1 =
-    let s = u .store in
+  still-goes : Goes s u
+  still-goes = record { bits = c .bits; ready = c .ready; duty = duty-of; hdp = λ q h e. refl }
+
+  -- while a zero is awaited no teardown is pending and every engine is idle
+  zero-goes : awaiting u ≡ true → (v : List ℕ) → tearingsOf v ≡ tearingsOf u → resetOf v ≡ resetOf u → bitOf v ≡ bitOf u
+      → ((q : ℕ) → q < queues → bit q (marksOf v) ≡ true → hdpOf v q ≡ 0) → Goes s v
+  zero-goes w v t r b z = record {
+    bits = b ∙ c .bits ∙ sym r;
+    ready = λ e. clash w (c .ready (sym r ∙ e));
+    duty = λ q h. let d = c .duty q h in record {
+      young = λ e. clash w (d .ready (sym (ap (bit q) t) ∙ e));
+      stage = λ e. d .stage (sym (ap (bit q) t) ∙ e);
+      alone = λ e. ap (bit q) t ∙ d .alone (sym r ∙ e);
+      ready = λ e. clash w (d .ready (sym (ap (bit q) t) ∙ e));
+      asleep = λ e. d .asleep w;
+      zeroed = λ m e. z q h m;
+    };
+    hdp = λ q h e. clash (c .duty q h .asleep w) e;
+  }
+
+  -- a mark that is set says that its HDP is 0
+  marked-zero : awaiting u ≡ true → (q : ℕ) → q < queues → bit q (marksOf u) ≡ true → hdpOf u q ≡ 0
+  marked-zero w q h m = let d = c .duty q h in d .zeroed m (d .asleep w)
+
+  head-goes : (q x : ℕ) → q < queues → awaiting u ≡ true → x ≡ 0 → Goes s (setMark q (setHdp q x u))
+  head-goes q x h w z =
+      let t = setHdp q x u in
+      let m = setBit q (marksOf t) in
+      zero-goes w (setMarks m t) (tearingsOf-setMarks t m ∙ tearingsOf-setHdp u q x h) (resetOf-setMarks t m ∙ resetOf-setHdp u q x h) (bitOf-setMarks t m ∙ bitOf-setHdp u q x h)
+      (each (λ j. j < queues → bit j (marksOf (setMarks m t)) ≡ true → hdpOf (setMarks m t) j ≡ 0) q
+      (λ k e. hdpOf-setMarks t m q k ∙ hdpOf-setHdp-same u q x size k ∙ z)
+      (λ j n k e. hdpOf-setMarks t m j k ∙ hdpOf-setHdp-other u q x j n
+      ∙ marked-zero w j k (sym (ap (bit j) (marksOf-setMarks t m (length-setHdp u q x ∙ size)) ∙ bit-setBit-other j q (marksOf t) n ∙ ap (bit j) (marksOf-setHdp u q x h)) ∙ e)))
+
+  cp-goes : (q x : ℕ) → q < queues → awaiting u ≡ true → Goes s (setMark (queues + q) (setCp q x u))
+  cp-goes q x h w =
+      let t = setCp q x u in
+      let m = setBit (queues + q) (marksOf t) in
+      zero-goes w (setMarks m t) (tearingsOf-setMarks t m ∙ tearingsOf-setCp u q x h) (resetOf-setMarks t m ∙ resetOf-setCp u q x h) (bitOf-setMarks t m ∙ bitOf-setCp u q x h)
+      (λ j k e. hdpOf-setMarks t m j k ∙ hdpOf-setCp u q x j k
+      ∙ marked-zero w j k (sym (ap (bit j) (marksOf-setMarks t m (length-setCp u q x ∙ size)) ∙ bit-setBit-other j (queues + q) (marksOf t) (λ n. omega arith) ∙ ap (bit j) (marksOf-setCp u q x h)) ∙ e))
+
+  acked-goes : (q : ℕ) → q < queues → Goes s (setCp q 0 u)
+  acked-goes q h = record {
+    bits = bitOf-setCp u q 0 h ∙ c .bits ∙ sym (resetOf-setCp u q 0 h);
+    ready = λ e. awaiting-setCp u q 0 h ∙ c .ready (sym (resetOf-setCp u q 0 h) ∙ e);
+    duty = λ j k. let d = c .duty j k in record {
+      young = each (λ j. j < queues → tearingOf (setCp q 0 u) j ≡ true → cpOf (setCp q 0 u) j ≢ teardownDone) q
+          (λ k e z. omega (arith, z, cpOf-setCp-same u q 0 size h))
+          (λ j n k e z. c .duty j k .young (sym (tearingOf-setCp u q 0 j h) ∙ e) (sym (cpOf-setCp-other u q 0 j n) ∙ z))
+          j k;
+      stage = λ e. d .stage (sym (tearingOf-setCp u q 0 j h) ∙ e);
+      alone = λ e. tearingOf-setCp u q 0 j h ∙ d .alone (sym (resetOf-setCp u q 0 h) ∙ e);
+      ready = λ e. awaiting-setCp u q 0 h ∙ d .ready (sym (tearingOf-setCp u q 0 j h) ∙ e);
+      asleep = λ e. d .asleep (sym (awaiting-setCp u q 0 h) ∙ e);
+      zeroed = λ m e. hdpOf-setCp u q 0 j k ∙ d .zeroed (sym (ap (bit j) (marksOf-setCp u q 0 h)) ∙ m) e;
+    };
+    hdp = λ j k e. hdpOf-setCp u q 0 j k;
+  }
+
+  ack-goes : (q x : ℕ) → q < queues → Goes s (ackWritten u q x)
+  ack-goes q x h = at (awaiting u) refl
+    where
+      other : (b : Bool) → eqb x (cpOf u q) ≡ b → awaiting u ≡ false → Goes s (ackWritten u q x)
+      other true e w = rw (ackWritten-same u q x w (eqb-true x (cpOf u q) e)) (acked-goes q h)
+      other false e w = rw (ackWritten-other u q x w (eqb-false x (cpOf u q) e)) still-goes
+
+      at : (b : Bool) → awaiting u ≡ b → Goes s (ackWritten u q x)
+      at true w = rw (ackWritten-zero u q x w) (cp-goes q x h w)
+      at false w = other (eqb x (cpOf u q)) refl w
+
+  tear-goes : (q : ℕ) → awaiting u ≡ false → resetOf u ≡ false → cpOf u q ≢ teardownDone → Goes s (setTearing q u)
+  tear-goes q w r n =
+      let m = setBit q (tearingsOf u) in
+      let t = setTearings m u in
+      record {
+        bits = bitOf-setTearings u m ∙ c .bits ∙ sym (resetOf-setTearings u m);
+        ready = λ e. clash (sym (resetOf-setTearings u m) ∙ e) r;
+        duty = λ j k. let d = c .duty j k in record {
+          young = each (λ j. j < queues → tearingOf t j ≡ true → cpOf t j ≢ teardownDone) q
+              (λ k e z. n (sym (cpOf-setTearings u m q k) ∙ z))
+              (λ j i k e z. c .duty j k .young (sym (tearingOf-setTearing-other u q size j i) ∙ e) (sym (cpOf-setTearings u m j k) ∙ z))
+              j k;
+          stage = each (λ j. j < queues → tearingOf t j ≡ false → stageOf (s .ctl) j ≡ 1) q
+              (λ k e. clash (tearingOf-setTearing-same u q size) e)
+              (λ j i k e. c .duty j k .stage (sym (tearingOf-setTearing-other u q size j i) ∙ e))
+              j k;
+          alone = λ e. clash (sym (resetOf-setTearings u m) ∙ e) r;
+          ready = λ e. awaiting-setTearings u m ∙ w;
+          asleep = λ e. d .asleep (sym (awaiting-setTearings u m) ∙ e);
+          zeroed = λ i e. hdpOf-setTearings u m j k ∙ d .zeroed (sym (ap (bit j) (marksOf-setTearings u m)) ∙ i) e;
+        };
+        hdp = λ j k e. hdpOf-setTearings u m j k;
+      }
+
+  reset-goes : awaiting u ≡ false → anyTearing u ≡ false → Goes s (resetWritten u)
+  reset-goes w n =
+      let t = setReset 1 u in
+      let waits = awaiting-setResetBit t 1 ∙ awaiting-setReset u 1 in
+      let none : (q : ℕ) → tearingOf (resetWritten u) q ≡ false = λ q. tearingOf-setResetBit t 1 q ∙ tearingOf-setReset u 1 q ∙ anyTearing-none u q n in
+      let hdps : (q : ℕ) → q < queues → hdpOf (resetWritten u) q ≡ hdpOf u q = λ q h. hdpOf-setResetBit t 1 q h ∙ hdpOf-setReset u 1 q h in
+      record {
+        bits = bitOf-setResetBit t 1 (length-setReset u 1 ∙ size) ∙ sym (resetOf-setResetBit t 1 ∙ resetOf-setReset u 1 size);
+        ready = λ e. waits ∙ w;
+        duty = λ q h. let d = c .duty q h in record {
+          young = λ e. clash e (none q);
+          stage = λ e. d .stage (anyTearing-none u q n);
+          alone = λ e. none q;
+          ready = λ e. waits ∙ w;
+          asleep = λ e. d .asleep (sym waits ∙ e);
+          zeroed = λ m e. hdps q h ∙ d .zeroed (sym (ap (bit q) (marksOf-setResetBit t 1 ∙ marksOf-setReset u 1)) ∙ m) e;
+        };
+        hdp = λ q h e. hdps q h;
+      }
+
+  -- by class; an HDP is zeroed here, and starts no engine
+  register-goes : (n x : ℕ) → startsEngine (s .ctl) n ≡ false → registerFault u n x ≡ 0 → Goes s (written u n x)
+  unfolding registerFault written
+  register-goes n x o =
+      byClass-both (λ (k : ℕ) (v : List ℕ). k ≡ 0 → Goes s v) n _ _ _ _ _ _ _ _ _ _ _ _ _ _ _ _ head (λ q h z. ack-goes q x h)
+      (λ side h z. let f = teardownFault-none (awaiting u) (resetOf u) (tearingOf u (tearQueue side x)) x (cpOf u (tearQueue side x)) z in tear-goes (tearQueue side x) (f .0) (f .1) (f .4))
+      (λ z. let f = resetFault-none (awaiting u) (resetOf u) (anyTearing u) x z in reset-goes (f .0) (f .2))
+      (λ z. still-goes) (λ z. still-goes) (λ z. still-goes) (λ z. still-goes)
+    where
+      head : n < hdpClass + queues → headNumber u (n - hdpClass) x ≡ 0 → Goes s (headWritten u (n - hdpClass) x)
+      head h z =
+          let w : awaiting u ≡ true = not-false (awaiting u) (rw (lt-ltb n (hdpClass + queues) h) at o) in
+          rw (headWritten-zero u (n - hdpClass) x w)
+          (head-goes (n - hdpClass) x (omega arith) w (headFault-zero (awaiting u) (resetOf u) (tearingOf u (n - hdpClass)) x (hdpOf u (n - hdpClass)) w z))
+
+-- ---- a table after a write is a table, with the heads that it had
+
+record Fits (t v : List ℕ) : Type 0 where
+  size : length v ≡ stateWords
+  flags : flagsFit v ≡ true
+  heads : (q : ℕ) → q < queues → headOf v q ≡ headOf t q
+
+module _ {t v : List ℕ} (f : Fits t v) where
+  fits-hdp : (q x : ℕ) → q < queues → Fits t (setHdp q x v)
+  fits-hdp q x h = record {
+    size = length-setHdp v q x ∙ f .size;
+    flags = flagsFit-setHdp v q x h ∙ f .flags;
+    heads = λ j k. headOf-setHdp v q x j k ∙ f .heads j k;
+  }
+
+  fits-cp : (q x : ℕ) → q < queues → Fits t (setCp q x v)
+  fits-cp q x h = record {
+    size = length-setCp v q x ∙ f .size;
+    flags = flagsFit-setCp v q x h ∙ f .flags;
+    heads = λ j k. headOf-setCp v q x j k ∙ f .heads j k;
+  }
+
+  fits-mark : (k : ℕ) → k < marks → Fits t (setMark k v)
+  fits-mark k h = record {
+    size = length-setMarks v _ ∙ f .size;
+    flags = flagsFit-setMark v (f .flags) k h;
+    heads = λ j l. headOf-setMarks v _ j l ∙ f .heads j l;
+  }
+
+  fits-tearing : (q : ℕ) → q < queues → Fits t (setTearing q v)
+  fits-tearing q h = record {
+    size = length-setTearings v _ ∙ f .size;
+    flags = flagsFit-setTearing v (f .flags) q h;
+    heads = λ j l. headOf-setTearings v _ j l ∙ f .heads j l;
+  }
+
+  fits-reset : Fits t (resetWritten v)
+  fits-reset = record {
+    size = length-setResetBit (setReset 1 v) 1 ∙ length-setReset v 1 ∙ f .size;
+    flags = flagsFit-setResetBit (setReset 1 v) 1 ∙ flagsFit-setReset v (f .flags) 1 (omega arith);
+    heads = λ j l. headOf-setResetBit (setReset 1 v) 1 j l ∙ headOf-setReset v 1 j l ∙ f .heads j l;
+  }
+
+module _ (t : List ℕ) (table : Table t) (x : ℕ) where
+  same : Fits t t
+  same = record { size = table .size; flags = table-fits table; heads = λ q h. refl }
+
+  head-fits : (q : ℕ) → q < queues → Fits t (headWritten t q x)
+  unfolding headWritten
+  head-fits q h = let f = fits-hdp same q x h in pick-holds (Fits t) (awaiting t) _ _ (fits-mark f q (omega arith)) f
+
+  ack-fits : (q : ℕ) → q < queues → Fits t (ackWritten t q x)
+  unfolding ackWritten
+  ack-fits q h =
+      pick-holds (Fits t) (awaiting t) _ _ (fits-mark (fits-cp same q x h) (queues + q) (omega arith))
+      (pick-holds (Fits t) (eqb x (cpOf t q)) _ _ (fits-cp same q 0 h) same)
+
+  written-fits : (n : ℕ) → Fits t (written t n x)
+  unfolding written
+  written-fits n =
+      byClass-holds (Fits t) n _ _ _ _ _ _ _ _ (λ h. head-fits (n - hdpClass) (omega arith)) ack-fits
+      (λ side h. fits-tearing same (tearQueue side x) (tearQueue-lt side x h)) (fits-reset same) same same same same
+
+-- ---- all together
+
+-- a flag is a word that is 0 or 1
+flag-word : (x y : ℕ) → x ≤ 1 → y ≤ 1 → eqb x 1 ≡ eqb y 1 → x ≡ y
+flag-word x y a b e = at (eqb y 1) e refl
+  where
+    at : (t : Bool) → eqb x 1 ≡ t → eqb y 1 ≡ t → x ≡ y
+    at true p q = eqb-true x 1 p ∙ sym (eqb-true y 1 q)
+    at false p q = let m = eqb-false x 1 p in let n = eqb-false y 1 q in omega arith
+
+-- the registers of its small state are the controller's, and so are marks, teardowns and reset
+pub calm-alike : (s : Machine) → Calm s → Loaded s → Alike (s .state) (s .ctl .state)
+unfolding resetOf
+calm-alike s c l = record { same = λ k h g. at k h g (ltb k marksAt) refl }
+  where
+    register : (k : ℕ) → k ≤ bitAt → isDevice k ≡ true → getD (s .state) k 0 ≡ getD (s .ctl .state) k 0
+    register k g d = ap (λ (t : List ℕ). getD t k 0) (sym l) ∙ getD-loaded (s .ctl .state) (s .state) k (omega (arith, c .sized .book .size)) ∙ rw d refl
+
+    past : (i : ℕ) → marksAt + i ≤ bitAt → getD (s .state) (marksAt + i) 0 ≡ getD (s .ctl .state) (marksAt + i) 0
+    past zero g = c .marks
+    past (suc zero) g = c .tearings
+    past (suc (suc zero)) g = flag-word (getD (s .state) resetAt 0) (getD (s .ctl .state) resetAt 0) (c .sized .book .reset) (c .sized .ctl .reset) (c .resets)
+    past (suc (suc (suc zero))) g = register bitAt g refl
+    past (suc (suc (suc (suc i)))) g = absurd (omega arith)
+
+    at : (k : ℕ) → queues ≤ k → k ≤ bitAt → (b : Bool) → ltb k marksAt ≡ b → getD (s .state) k 0 ≡ getD (s .ctl .state) k 0
+    at k h g true e = register k g (isDevice-register k h (ltb-true k marksAt e))
+    at k h g false e =
+        let m = ltb-false k marksAt e in
+        let z : marksAt + (k - marksAt) ≡ k = omega arith in
+        rw z at (past (k - marksAt) (omega arith))
+
+pub register-calm : (s : Machine) → Calm s → Loaded s → (n x : ℕ) → startsEngine (s .ctl) n ≡ false → registerFault (s .ctl .state) n x ≡ 0
+    → Calm (rewritten (written (s .state) n x) (written (s .ctl .state) n x) s)
+register-calm s c l n x o z =
+    let g = register-goes s c n x o z in
+    let b = written-fits (s .state) (c .sized .book) x n in
+    let k = written-fits (s .ctl .state) (c .sized .ctl) x n in
+    let a = written-alike (calm-alike s c l) (c .sized .book .size) (c .sized .ctl .size) x n in
+    let phases = phase-channels (s .ctl) (setState (written (s .ctl .state) n x) (s .ctl)) refl in
     record {
-      held = c .held;
-      bits = c .bits;
-      ready = λ e. clash w (c .ready e);
-      dutyT = duty-mark (c .dutyT) w ht ct _ m0 z0;
-      dutyR = duty-mark (c .dutyR) w hr cr _ m1 z1;
-      tx = tx-idle (s .kinds) (wordsOf u) (s .qt) (u .t .hdp) (u .t .stage) ht (u .tx) (c .dutyT .asleep w) (c .tx);
-      rx = rx-idle (s .lens) (wordsOf u) (s .qr) (u .r .hdp) (u .r .stage) hr (u .rx) (c .dutyR .asleep w) (c .rx);
+      qs = c .qs;
+      sized = record { book = fits-table (b .size) (b .flags); ctl = fits-table (k .size) (k .flags); stages = c .sized .stages; channels = c .sized .channels };
+      defined = c .defined;
+      held = record {
+        fit = c .held .fit;
+        kinds = c .held .kinds;
+        many = c .held .many;
+        heads = λ q h. b .heads q h ∙ c .held .heads q h;
+        linked = c .held .linked;
+        sole = c .held .sole;
+        recorded = c .held .recorded;
+      };
+      marks = marks-alike a;
+      tearings = tearings-alike a;
+      resets = reset-alike a;
+      bits = g .bits;
+      ready = g .ready;
+      duty = λ q h. let d = g .duty q h in rw (phases q) (record { young = d .young; stage = d .stage; alone = d .alone; ready = d .ready; asleep = d .asleep; zeroed = d .zeroed });
+      engine = λ q h. rw (phases q) (served q h (idle (phaseOf (s .ctl) q)) refl (g .hdp q h));
       room = c .room;
     }
-
-duty-ack : {reset waits mark idle : Bool} {p : Post} → Duty reset waits p mark idle → Duty reset waits (holds (p .hdp) 0 p) mark idle
-duty-ack d = record { young = λ e. omega arith; stage = d .stage; alone = d .alone; ready = d .ready; asleep = d .asleep; zeroed = d .zeroed }
-
-duty-tear : {reset waits mark idle : Bool} {p : Post} → Duty reset waits p mark idle → waits ≡ false → reset ≡ false → p .cp ≢ tornDown → Duty reset waits (tears p) mark idle
-duty-tear d w r n = record {
-  young = λ e. n;
-  stage = λ e. clash refl e;
-  alone = λ e. clash e r;
-  ready = λ e. w;
-  asleep = d .asleep;
-  zeroed = d .zeroed;
-}
-
-duty-reset : {reset waits mark idle : Bool} {p : Post} → Duty reset waits p mark idle → p .torn ≡ false → Duty true waits p mark idle
-duty-reset d n = record { young = d .young; stage = d .stage; alone = λ e. n; ready = d .ready; asleep = d .asleep; zeroed = d .zeroed }
-
-pub ackT-calm : (u : View) → Calm u → Calm (withPosts (holds (u .t .hdp) 0 (u .t)) (u .r) (u .common) u)
-ackT-calm u c = record { held = c .held; bits = c .bits; ready = c .ready; dutyT = duty-ack (c .dutyT); dutyR = c .dutyR; tx = c .tx; rx = c .rx; room = c .room }
-
-pub ackR-calm : (u : View) → Calm u → Calm (withPosts (u .t) (holds (u .r .hdp) 0 (u .r)) (u .common) u)
-ackR-calm u c = record { held = c .held; bits = c .bits; ready = c .ready; dutyT = c .dutyT; dutyR = duty-ack (c .dutyR); tx = c .tx; rx = c .rx; room = c .room }
-
-pub tearT-calm : (u : View) → Calm u → waiting (u .common) ≡ false → u .common .reset ≡ false → u .t .cp ≢ tornDown → Calm (withPosts (tears (u .t)) (u .r) (u .common) u)
-tearT-calm u c w r n =
-    record { held = c .held; bits = c .bits; ready = c .ready; dutyT = duty-tear (c .dutyT) w r n; dutyR = c .dutyR; tx = c .tx; rx = c .rx; room = c .room }
-
-pub tearR-calm : (u : View) → Calm u → waiting (u .common) ≡ false → u .common .reset ≡ false → u .r .cp ≢ tornDown → Calm (withPosts (u .t) (tears (u .r)) (u .common) u)
-tearR-calm u c w r n =
-    record { held = c .held; bits = c .bits; ready = c .ready; dutyT = c .dutyT; dutyR = duty-tear (c .dutyR) w r n; tx = c .tx; rx = c .rx; room = c .room }
-
-pub reset-calm : (u : View) → Calm u → waiting (u .common) ≡ false → u .t .torn ≡ false → u .r .torn ≡ false → Calm (withPosts (u .t) (u .r) (resets (u .common)) u)
-reset-calm u c w nt nr = record {
-  held = c .held;
-  bits = refl;
-  ready = λ e. w;
-  dutyT = duty-reset (c .dutyT) nt;
-  dutyR = duty-reset (c .dutyR) nr;
-  tx = c .tx;
-  rx = c .rx;
-  room = c .room;
-}
-
--- ---- a class number, and what its rule writes
-
-module _ (f : Flags) (r : Regs) (n x : ℕ) where
-  written-low : 2 ≤ n → n < 16 → written f r n x ≡ record { flags = f; regs = r }
-  unfolding written
-  written-low h l = byClass-low n _ _ _ _ _ _ _ _ h l
-
-  written-ack : 16 ≤ n → n < 18 → written f r n x ≡ ackWritten f r (n - 16) x
-  unfolding written
-  written-ack h l = byClass-ack n _ _ _ _ _ _ _ _ h l
-
-  written-mid : 18 ≤ n → n < 32 → written f r n x ≡ record { flags = f; regs = r }
-  unfolding written
-  written-mid h l = byClass-mid n _ _ _ _ _ _ _ _ h l
-
-  written-teardown : 32 ≤ n → n < 34 → written f r n x ≡ teardownWritten f r (n - 32)
-  unfolding written
-  written-teardown h l = byClass-teardown n _ _ _ _ _ _ _ _ h l
-
-  fault-teardown : 32 ≤ n → n < 34 → registerFault f r n x ≡ teardownFault f r (n - 32) x
-  unfolding registerFault
-  fault-teardown h l = byClass-teardown n _ _ _ _ _ _ _ _ h l
-
-  written-reset : n ≡ 34 → written f r n x ≡ resetWritten f r
-  unfolding written
-  written-reset h = byClass-reset n _ _ _ _ _ _ _ _ h
-
-  fault-reset : n ≡ 34 → registerFault f r n x ≡ resetFault f x
-  unfolding registerFault
-  fault-reset h = byClass-reset n _ _ _ _ _ _ _ _ h
-
-  written-rest : 34 < n → written f r n x ≡ record { flags = f; regs = r }
-  unfolding written
-  written-rest h = byClass-rest n _ _ _ _ _ h
-
--- ---- on machines
-
-abbrev pub rewritten : Written → View → Machine
-rewritten w u = record {
-  ctl = setRegs (w .regs) (setFlags (w .flags) (ctlOf u));
-  mem = u .store .mem;
-  kinds = u .store .kinds;
-  book = record { heads = start (u .store .qt) ∷ start (u .store .qr) ∷ []; flags = w .flags };
-  used = u .store .used;
-  lens = u .store .lens;
-}
-
--- nothing is written
-same-inv : (u : View) → Calm u → (w : Written) → w ≡ record { flags = flagsOf u; regs = regsOf u } → Inv (rewritten w u)
-same-inv u c w e = rw e (calm-inv u c)
-
--- a test decides between two writes
-decides : (u : View) (t : Bool) (x y : Written) → (t ≡ true → Inv (rewritten x u)) → (t ≡ false → Inv (rewritten y u)) → Inv (rewritten (pick t x y) u)
-decides u true x y f g = f refl
-decides u false x y f g = g refl
-
-module _ (u : View) (c : Calm u) where
-  -- a mark that is set says that its HDP is 0, while a zero is awaited
-  zeroT : waiting (u .common) ≡ true → u .common .m0 ≡ true → u .t .hdp ≡ 0
-  zeroT w m = c .dutyT .zeroed m (c .dutyT .asleep w)
-
-  zeroR : waiting (u .common) ≡ true → u .common .m1 ≡ true → u .r .hdp ≡ 0
-  zeroR w m = c .dutyR .zeroed m (c .dutyR .asleep w)
-
-  ack-inv : (q x : ℕ) → q < 2 → Inv (rewritten (ackWritten (flagsOf u) (regsOf u) q x) u)
-  unfolding ackWritten awaiting
-  ack-inv zero x h =
-      decides u (waiting (u .common)) _ _
-      (λ w. calm-inv _ (mark-calm u c w (u .t .hdp) x (u .r .hdp) (u .r .cp) (u .common .m0) (u .common .m1) true (u .common .m3) (zeroT w) (zeroR w)))
-      (λ w. decides u (eqb x (u .t .cp)) _ _ (λ e. calm-inv _ (ackT-calm u c)) (λ e. calm-inv u c))
-  ack-inv (suc zero) x h =
-      decides u (waiting (u .common)) _ _
-      (λ w. calm-inv _ (mark-calm u c w (u .t .hdp) (u .t .cp) (u .r .hdp) x (u .common .m0) (u .common .m1) (u .common .m2) true (zeroT w) (zeroR w)))
-      (λ w. decides u (eqb x (u .r .cp)) _ _ (λ e. calm-inv _ (ackR-calm u c)) (λ e. calm-inv u c))
-  ack-inv (suc (suc q)) x h = absurd (omega arith)
-
-  -- "Teardown: 6, 7, 8 for that side, 9 unless 0, 10 while that CP reads 0xFFFFFFFC"
-  teardown-inv : (q x : ℕ) → q < 2 → teardownFault (flagsOf u) (regsOf u) q x ≡ 0 → Inv (rewritten (teardownWritten (flagsOf u) (regsOf u) q) u)
-  unfolding teardownFault awaiting
-  teardown-inv zero x h z =
-      let a = shun 5 (waiting (u .common)) _ z in
-      let b = shun 6 (u .common .reset) _ (a .1) in
-      let d = want 8 (eqb x 0) _ (shun 7 (u .t .torn) _ (b .1) .1) in
-      calm-inv _ (tearT-calm u c (a .0) (b .0) (eqb-false (u .t .cp) tornDown (shun 9 (eqb (u .t .cp) tornDown) 0 (d .1) .0)))
-  teardown-inv (suc zero) x h z =
-      let a = shun 5 (waiting (u .common)) _ z in
-      let b = shun 6 (u .common .reset) _ (a .1) in
-      let d = want 8 (eqb x 0) _ (shun 7 (u .r .torn) _ (b .1) .1) in
-      calm-inv _ (tearR-calm u c (a .0) (b .0) (eqb-false (u .r .cp) tornDown (shun 9 (eqb (u .r .cp) tornDown) 0 (d .1) .0)))
-  teardown-inv (suc (suc q)) x h z = absurd (omega arith)
-
-  none-torn : (a b : Bool) → pick a true (pick b true false) ≡ false → (a ≡ false) × (b ≡ false)
-  none-torn true b e = clash refl e
-  none-torn false true e = clash refl e
-  none-torn false false e = (refl, refl)
-
-  -- "Reset: 6, 7, 8 for either side, 9 unless 1"
-  reset-inv : (x : ℕ) → resetFault (flagsOf u) x ≡ 0 → Inv (rewritten (resetWritten (flagsOf u) (regsOf u)) u)
-  unfolding resetFault awaiting anyTorn
-  reset-inv x z =
-      let a = shun 5 (waiting (u .common)) _ z in
-      let b = shun 6 (u .common .reset) _ (a .1) in
-      let d = shun 7 (pick (u .t .torn) true (pick (u .r .torn) true false)) _ (b .1) in
-      let n = none-torn (u .t .torn) (u .r .torn) (d .0) in
-      calm-inv _ (reset-calm u c (a .0) (n .0) (n .1))
-
-  -- "HDP. Awaiting initialisation ..: 0 is accepted, stored and marks it"
-  pub zeroes-inv : (q x : ℕ) → q < 2 → waiting (u .common) ≡ true → headFault (flagsOf u) (regsOf u) q x ≡ 0
-      → Inv (rewritten (headWritten (flagsOf u) (regsOf u) q x) u)
-  unfolding headFault headWritten awaiting
-  zeroes-inv zero x h w z =
-      let e : x ≡ 0 = eqb-true x 0 (want 5 (eqb x 0) 0 (rw w at z) .0) in
-      rw w (calm-inv _ (mark-calm u c w x (u .t .cp) (u .r .hdp) (u .r .cp) true (u .common .m1) (u .common .m2) (u .common .m3) (λ m. e) (zeroR w)))
-  zeroes-inv (suc zero) x h w z =
-      let e : x ≡ 0 = eqb-true x 0 (want 5 (eqb x 0) 0 (rw w at z) .0) in
-      rw w (calm-inv _ (mark-calm u c w (u .t .hdp) (u .t .cp) x (u .r .cp) (u .common .m0) true (u .common .m2) (u .common .m3) (zeroT w) (λ m. e)))
-  zeroes-inv (suc (suc q)) x h w z = absurd (omega arith)
-
-  -- any register but HDP, by its class
-  pub register-inv : (n x : ℕ) → 2 ≤ n → registerFault (flagsOf u) (regsOf u) n x ≡ 0 → Inv (rewritten (written (flagsOf u) (regsOf u) n x) u)
-  register-inv n x h z =
-      before 16 (λ l. same-inv u c _ (written-low f r n x h l))
-      (λ a. before 18 (λ l. wrote _ _ (written-ack f r n x a l) (ack-inv (n - 16) x (omega arith)))
-      (λ b. before 32 (λ l. same-inv u c _ (written-mid f r n x b l))
-      (λ d. before 34 (λ l. wrote _ _ (written-teardown f r n x d l) (teardown-inv (n - 32) x (omega arith) (sym (fault-teardown f r n x d l) ∙ z)))
-      (λ e. before 35 (λ l. let i : n ≡ 34 = omega arith in wrote _ _ (written-reset f r n x i) (reset-inv x (sym (fault-reset f r n x i) ∙ z)))
-      (λ g. same-inv u c _ (written-rest f r n x (omega arith)))))))
-    where
-      f : Flags
-      f = flagsOf u
-
-      r : Regs
-      r = regsOf u
-
-      wrote : (w w′ : Written) → w ≡ w′ → Inv (rewritten w′ u) → Inv (rewritten w u)
-      wrote w w′ e i = rw e i
-
-      before : (k : ℕ) → (n < k → Inv (rewritten (written f r n x) u)) → (k ≤ n → Inv (rewritten (written f r n x) u)) → Inv (rewritten (written f r n x) u)
-      before k p q = at (ltb n k) refl
-        where
-          at : (t : Bool) → ltb n k ≡ t → Inv (rewritten (written f r n x) u)
-          at true e = p (ltb-true n k e)
-          at false e = q (ltb-false n k e)
+  where
+    served : (q : ℕ) → q < queues → (b : Bool) → idle (phaseOf (s .ctl) q) ≡ b → (idle (phaseOf (s .ctl) q) ≡ false → hdpOf (written (s .ctl .state) n x) q ≡ hdpOf (s .ctl .state) q)
+        → Serves (s .kinds) (s .lens) (wordsOf s) (queueAt (c .qs) q) (hdpOf (written (s .ctl .state) n x) q) (stageOf (s .ctl) q) (phaseOf (s .ctl) q)
+    served q h true e f =
+        serves-idle (s .kinds) (s .lens) (wordsOf s) (queueAt (c .qs) q) (postOf s q .hdp) (postOf s q .stage) (hdpOf (written (s .ctl .state) n x) q) (phaseOf (s .ctl) q) e (c .engine q h)
+    served q h false e f = rw (f e) (c .engine q h)

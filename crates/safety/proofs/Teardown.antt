@@ -1,67 +1,127 @@
--- The teardown steps of both queues and the reset step keep the invariant, are never undefined, move nothing over the bus and
+-- The teardown steps of any queue and the reset step keep the invariant, are never undefined, move nothing over the bus and
 -- mark a descriptor in use alone. Assumes nothing.
 --     stays-fine                 a step that cannot move
---     marked-of                  all four registers are zeroed: each is
---     turn-stage, turn-clear, turn-report   teardown steps 1 to 3, as the book sees them
---     tear-transmit, tear-receive           teardown of either queue
+--     quiet-phase                whether an engine is quiet is told by its phase
+--     AtRest, Before, quiet-engine   a quiet engine is idle, or stands before its queue
+--     staged, cleared, reported  the post after teardown steps 1, 2 and 3
+--     turn-stage, turn-clear, turn-report   these steps, as the book sees them
+--     staged-stands, cleared-stands, reported-stands   and the record after each
+--     idle-marks, before-marks   step 1: with HDP 0 nothing is marked, else TD at the head
+--     clears, reports            steps 2 and 3
+--     tear-fine                  teardown of any queue
+--     all-rest, no-room          where every channel is idle, every engine is at rest; nothing left has no blocks
+--     common-reset, post-reset, left-reset   the reset: what it leaves of flags and queues
 --     reset-fine                 the reset
-use Prim.Native.Nat.{ℕ, _+_}
-use mathlib.Core.Path.{_≡_, refl, ap, _∙_, sym}
+use Prim.Native.Nat.{ℕ, _+_, _<_}
+use mathlib.Core.Path.{_≡_, refl, ap, _∙_, sym, subst}
 use mathlib.Core.Bool.{Bool, true, false}
-use mathlib.Core.List.{[], _∷_}
+use mathlib.Core.List.{List, [], _∷_}
 use mathlib.Core.Logic.{_⊎_, inl, inr, _≢_}
 use native.Mathlib.Omega.{arith}
 use lib.Dec.{eqb}
-use borrow.Author.Tests.{eq-eqb, ne-eqb, eqb-true, eqb-false, not-false}
+use lib.ListN.{length, getD, replicate, length-replicate}
+use lib.Seq.{getD-set-same}
+use borrow.Author.Tests.{eq-eqb, ne-eqb, eqb-true, eqb-false}
 use Rattle.layout.specs.Choice.{pick, both}
-use Rattle.layout.specs.Layout.{wordOf, addr}
-use Rattle.layout.proofs.ChoiceLaws.{clash, both-left, both-right}
-use Rattle.layout.proofs.PointerLaws.{wordOf-addr}
+use Rattle.layout.specs.Bits.{bit, clearBit}
+use Rattle.layout.specs.Layout.{goodPtr, addr, queues, marks, channels, sideOf, channelOf}
+use Rattle.layout.specs.declared.Side.{Side}
+use Rattle.layout.specs.declared.Side.the-variants.{Transmit, Receive}
+use Rattle.layout.proofs.ChoiceLaws.{clash, by-pick, both-left, both-right}
 use Rattle.words.specs.Word.{word}
 use Rattle.descriptor.specs.Fields.{td}
-use Rattle.descriptor.specs.Marks.{tdMark, marked}
-use Rattle.descriptor.specs.declared.Place.the-variants.{Start}
-use Rattle.registers.specs.Pending.{tornDown, every}
-use Rattle.queue.specs.Queue.{start, Linked}
-use Rattle.queue.proofs.KeptLaws.{kept-linked, kept-whole, kept-torn}
+use Rattle.marks.specs.Marks.{tdMark, marked}
+use Rattle.marks.proofs.FlagLaws.{td-tdMark, tdMark-lt}
+use Rattle.registers.specs.Table.{marksOf, tearingsOf, tearingOf, resetOf, bitOf, setHdp, setCp, clearTearing, setResetBit, unmarked}
+use Rattle.registers.specs.Rules.{teardownDone}
+use Rattle.registers.proofs.TableLaws.{bit-none, awaiting-bit, hdpOf-setHdp-same, cpOf-setHdp, marksOf-setHdp, tearingOf-setHdp, length-setCp, cpOf-setCp-same, hdpOf-setCp, marksOf-setCp, hdpOf-setTearings, cpOf-setTearings, marksOf-setTearings, tearingOf-clearTearing-same, length-setResetBit, bitOf-setResetBit, hdpOf-setResetBit, cpOf-setResetBit, marksOf-setResetBit, awaiting-setResetBit, tearingOf-setResetBit, resetOf-setResetBit, length-unmarked, hdpOf-unmarked, cpOf-unmarked, marksOf-unmarked, awaiting-unmarked, tearingOf-unmarked, resetOf-unmarked, flagsFit-setResetBit, flagsFit-unmarked}
+use Rattle.book.specs.declared.Mode.the-variants.{Head, All as Whole}
+use Rattle.queue.specs.Queue.{start, Linked, kept}
+use Rattle.queue.proofs.KeptLaws.{kept-torn, kept-whole}
 use Rattle.queue.proofs.StoreLaws.{marked-only}
-use Rattle.phases.specs.declared.Sending.{Sending}
+use Rattle.queue.proofs.NumberLaws.{getD-same, queueAt}
 use Rattle.phases.specs.declared.Sending.the-variants as S
-use Rattle.phases.specs.declared.Receiving.{Receiving}
 use Rattle.phases.specs.declared.Receiving.the-variants as R
 use Rattle.phases.specs.Quiet.{quietTx, quietRx}
-use Rattle.controller.specs.Controller.{Moved, answer, tearMark, tearClear, tearReport, tearStep, resetStep}
-use Rattle.safety.proofs.View.{Post, Common, View, ctlOf, marksOf, waiting, wordsOf, modeOf, leftT, leftR, sends, takes}
-use Rattle.safety.proofs.Inv.{Sendable, Fillable, over, Shared, Turn, Good}
-use Rattle.descriptor.proofs.FlagLaws.{td-tdMark, tdMark-lt}
+use Rattle.controller.specs.declared.Channel.{Channel}
+use Rattle.controller.specs.declared.Controller.{Controller}
+use Rattle.controller.specs.Controller.{Moved, answer, idleChannel, stageOf, setStage, setState, setChannels, allQuiet, quietBy, quiet, idleBy, tearMark, tearClear, tearReport, tearStep, resetStep}
+use Rattle.machine.specs.Machine.{Machine, withCtl}
+use Rattle.safety.proofs.Inv.{Ready, Phase, sending, taking, phaseBy, phaseOf, idle, Serves, RoomIn, Post, postOf, Common, commonOf, over, wordsOf, leftOf, Sized, Shared, Turn, Inv}
 use Rattle.safety.proofs.Ends.{top-start}
-use Rattle.safety.proofs.Touch.{Fine, fine-quiet, word-fits, marked-fits, marked-reads, moveT, moveR, touchT, touchR, spared, sole-swapped}
+use Rattle.safety.proofs.Marks.{word-fits, marked-fits, marked-reads}
+use Rattle.safety.proofs.Touch.{Sided, setPhase, phase-channels, phase-here, table-fits, fits-table, near-table, near-hdp, near-cp, near-finished, near-self, near-state, near-stage, near-phase, Stands, shared-of, turn-of, move-near, touch-near, touch-spares, Fine, fine-quiet}
+use Rattle.safety.proofs.LastSteps.{pointer-word, left-linked}
 
-pub stays-fine : (v : View) → Good v → Fine v (answer 0 (ctlOf v) (v .store .mem))
-stays-fine v g = fine-quiet v v (ctlOf v) (v .store .mem) refl g (λ k f. refl)
+pub stays-fine : (s : Machine) → Inv s → Fine s (answer 0 (s .ctl) (s .mem))
+stays-fine s i = fine-quiet i (λ k f. refl)
 
--- ---- the flags
+-- ---- a quiet engine
 
-zeroed-all : (c : Common) → waiting c ≡ false → every (marksOf c) ≡ true
-zeroed-all c e = not-false (every (marksOf c)) e
+abbrev pub quietIn : Phase → Bool
+quietIn (sending ph) = quietTx ph
+quietIn (taking ph) = quietRx ph
 
-pub marked-first : (c : Common) → waiting c ≡ false → c .m0 ≡ true
-marked-first c e = both-left (c .m0) _ (zeroed-all c e)
+pub quiet-phase : (c : Controller) (q : ℕ) → quiet c q ≡ quietIn (phaseOf c q)
+quiet-phase c q = at (sideOf q)
+  where
+    at : (side : Side) → quietBy side c (channelOf q) ≡ quietIn (phaseBy side c (channelOf q))
+    at Transmit = refl
+    at Receive = refl
 
-pub marked-second : (c : Common) → waiting c ≡ false → c .m1 ≡ true
-marked-second c e = both-left (c .m1) _ (both-right (c .m0) _ (zeroed-all c e))
+-- idle, with nothing left of its queue
+pub record AtRest (K lens L : List ℕ) (ph : Phase) : Type 0 where
+  pub rests : idle ph ≡ true
+  pub none : L ≡ []
+  pub serves : (w : ℕ → ℕ) (h n : ℕ) → Serves K lens w [] h n ph
 
-abbrev pub staged : ℕ → Post → Post
-staged n p = record { hdp = p .hdp; cp = p .cp; stage = n; booked = p .booked; torn = p .torn }
+-- before its queue; at teardown step 2 nothing is left of it
+pub record Before (K lens L : List ℕ) (h n : ℕ) (ph : Phase) : Type 0 where
+  pub good : goodPtr h ≡ true
+  pub state : ((n ≡ 1) × (start L ≡ h)) ⊎ ((n ≡ 2) × (L ≡ []))
+  pub serves : (w : ℕ → ℕ) → Serves K lens w [] h 2 ph
 
-abbrev pub cleared : Post → Post
-cleared p = record { hdp = 0; cp = p .cp; stage = 3; booked = p .booked; torn = p .torn }
+before : {F : List ℕ → Type 0} {L : List ℕ} {h n : ℕ} → Ready F L h n → ((n ≡ 1) × (start L ≡ h)) ⊎ ((n ≡ 2) × (L ≡ []))
+before {F} {L} {h} {n} r = at (r .state)
+  where
+    at : ((n ≡ 1) × (start L ≡ h) × F L) ⊎ ((n ≡ 2) × (L ≡ [])) → ((n ≡ 1) × (start L ≡ h)) ⊎ ((n ≡ 2) × (L ≡ []))
+    at (inl x) = inl (x .0, x .1)
+    at (inr x) = inr x
 
-abbrev pub reported : Post → Post
-reported p = record { hdp = p .hdp; cp = tornDown; stage = 1; booked = p .booked; torn = false }
+pub quiet-engine : (K lens : List ℕ) (w : ℕ → ℕ) (L : List ℕ) (h n : ℕ) (ph : Phase) → quietIn ph ≡ true → Serves K lens w L h n ph
+    → AtRest K lens L ph ⊎ Before K lens L h n ph
+quiet-engine K lens w L h n (sending S.Idle) e t = inl (record { rests = refl; none = t; serves = λ v x y. refl })
+quiet-engine K lens w L h n (sending S.New) e t =
+    inr (record { good = t .good; state = before t; serves = λ v. record { good = t .good; state = inr (refl, refl) } })
+quiet-engine K lens w L h n (sending (S.Within p)) e t = clash e refl
+quiet-engine K lens w L h n (sending (S.Moving p)) e t = clash e refl
+quiet-engine K lens w L h n (sending (S.Ended p)) e t = clash e refl
+quiet-engine K lens w L h n (sending (S.Marking p)) e t = clash e refl
+quiet-engine K lens w L h n (sending (S.Owning p)) e t = clash e refl
+quiet-engine K lens w L h n (sending (S.Done p)) e t = clash e refl
+quiet-engine K lens w L h n (taking R.Idle) e t = inl (record { rests = refl; none = t; serves = λ v x y. refl })
+quiet-engine K lens w L h n (taking R.Wait) e t =
+    inr (record { good = t .good; state = before t; serves = λ v. record { good = t .good; state = inr (refl, refl) } })
+quiet-engine K lens w L h n (taking (R.Fetch p)) e t = clash e refl
+quiet-engine K lens w L h n (taking (R.Moving p)) e t = clash e refl
+quiet-engine K lens w L h n (taking (R.Ended p)) e t = clash e refl
+quiet-engine K lens w L h n (taking (R.Last p)) e t = clash e refl
+quiet-engine K lens w L h n (taking (R.First p)) e t = clash e refl
+quiet-engine K lens w L h n (taking (R.Done p)) e t = clash e refl
 
-module _ {c : Common} {p : Post} {mark idle : Bool} (t : Turn c p mark idle) (pending : p .torn ≡ true) where
-  turn-stage : (n : ℕ) → Turn c (staged n p) mark idle
+-- ---- the post after each step
+
+abbrev staged : ℕ → Post → Post
+staged n p = record { hdp = p .hdp; cp = p .cp; stage = n; mark = p .mark; booked = p .booked; tearing = p .tearing }
+
+abbrev cleared : Post → Post
+cleared p = record { hdp = 0; cp = p .cp; stage = 3; mark = p .mark; booked = p .booked; tearing = p .tearing }
+
+abbrev reported : Post → Post
+reported p = record { hdp = p .hdp; cp = teardownDone; stage = 1; mark = p .mark; booked = p .booked; tearing = false }
+
+module _ {c : Common} {p : Post} {rests : Bool} (t : Turn c p rests) (pending : p .tearing ≡ true) where
+  turn-stage : (n : ℕ) → Turn c (staged n p) rests
   turn-stage n = record {
     settles = t .settles;
     young = t .young;
@@ -73,7 +133,7 @@ module _ {c : Common} {p : Post} {mark idle : Bool} (t : Turn c p mark idle) (pe
     zeroed = t .zeroed;
   }
 
-  turn-clear : Turn c (cleared p) mark true
+  turn-clear : Turn c (cleared p) true
   turn-clear = record {
     settles = t .settles;
     young = t .young;
@@ -85,7 +145,7 @@ module _ {c : Common} {p : Post} {mark idle : Bool} (t : Turn c p mark idle) (pe
     zeroed = λ m i. refl;
   }
 
-  turn-report : idle ≡ true → Turn c (reported p) mark idle
+  turn-report : rests ≡ true → Turn c (reported p) rests
   turn-report i = record {
     settles = refl;
     young = λ e. clash e refl;
@@ -97,237 +157,166 @@ module _ {c : Common} {p : Post} {mark idle : Bool} (t : Turn c p mark idle) (pe
     zeroed = t .zeroed;
   }
 
+-- ---- the record after each step
+
+module _ (s : Machine) (z : Sized s) (q : ℕ) (l : q < queues) where
+  stage-set : (d : Controller) (k : ℕ) → length (d .stages) ≡ queues → stageOf (setStage q k d) q ≡ k
+  stage-set d k e = getD-set-same (d .stages) q k 1 (omega arith)
+
+  staged-stands : (k : ℕ) → Stands s (setStage q k (s .ctl)) q (staged k (postOf s q)) (phaseOf (s .ctl) q)
+  staged-stands k = record {
+    near = near-stage (near-self q z) k;
+    post = let e = stage-set (s .ctl) k (z .stages) in cc;
+    phase = phase-channels (s .ctl) _ refl q;
+  }
+
+  -- HDP 0, and the engine in another phase
+  cleared-stands : (ph : Phase) → Sided q ph → Stands s (setStage q 3 (setState (setHdp q 0 (s .ctl .state)) (setPhase q ph (s .ctl)))) q (cleared (postOf s q)) ph
+  cleared-stands ph o =
+      let t = s .ctl .state in
+      let n = near-phase (near-self q z) l ph o in
+      record {
+        near = near-stage (near-state n (setHdp q 0 t) (near-hdp l (near-table (z .ctl)) 0)) 3;
+        post =
+            let a = hdpOf-setHdp-same t q 0 (z .ctl .size) l in
+            let b = cpOf-setHdp t q 0 q l in
+            let c = stage-set (setPhase q ph (s .ctl)) 3 (n .stages) in
+            let d = ap (bit q) (marksOf-setHdp t q 0 l) in
+            let e = tearingOf-setHdp t q 0 q l in
+            cc;
+        phase = phase-channels (setPhase q ph (s .ctl)) _ refl q ∙ phase-here (s .ctl) q (omega (arith, z .channels)) ph o;
+      }
+
+  reported-stands : Stands s (tearReport q (s .ctl)) q (reported (postOf s q)) (phaseOf (s .ctl) q)
+  reported-stands =
+      let t = s .ctl .state in
+      let u = setCp q teardownDone t in
+      let lu = length-setCp t q teardownDone ∙ z .ctl .size in
+      record {
+        near = near-stage (near-state (near-self q z) (clearTearing q u) (near-finished l (near-cp l (near-table (z .ctl)) teardownDone))) 1;
+        post =
+            let a = hdpOf-setTearings u (clearBit q (tearingsOf u)) q l ∙ hdpOf-setCp t q teardownDone q l in
+            let b = cpOf-setTearings u (clearBit q (tearingsOf u)) q l ∙ cpOf-setCp-same t q teardownDone (z .ctl .size) l in
+            let c = stage-set (s .ctl) 1 (z .stages) in
+            let d = ap (bit q) (marksOf-setTearings u (clearBit q (tearingsOf u)) ∙ marksOf-setCp t q teardownDone l) in
+            let e = tearingOf-clearTearing-same u q lu in
+            cc;
+        phase = phase-channels (s .ctl) _ refl q;
+      }
+
 -- ---- which step comes next
 
-three : (P : Moved → Type 0) (n : ℕ) (a b c : Moved) → (n ≡ 1 → P a) → (n ≡ 2 → P b) → (n ≢ 1 → n ≢ 2 → P c)
+pub three : (P : Moved → Type 0) (n : ℕ) (a b c : Moved) → (n ≡ 1 → P a) → (n ≡ 2 → P b) → (n ≢ 1 → n ≢ 2 → P c)
     → P (pick (eqb n 1) a (pick (eqb n 2) b c))
-three P n a b c f g h = at (eqb n 1) (eqb n 2) refl refl
+three P n a b c f g h =
+    by-pick P (eqb n 1) a _ (λ e. f (eqb-true n 1 e))
+    (λ e. by-pick P (eqb n 2) b c (λ d. g (eqb-true n 2 d)) (λ d. h (eqb-false n 1 e) (eqb-false n 2 d)))
+
+-- ---- teardown of queue q, once it is pending and the engine quiet
+
+module _ (s : Machine) (i : Inv s) (q : ℕ) (l : q < queues) (pending : postOf s q .tearing ≡ true) where
+  abbrev here : Post
+  here = postOf s q
+
+  abbrev phase : Phase
+  phase = phaseOf (s .ctl) q
+
+  abbrev L : List ℕ
+  L = leftOf s (i .qs) q
+
+  -- its registers are zeroed: an idle engine has HDP 0
+  pub idle-zero : idle phase ≡ true → here .hdp ≡ 0
+  idle-zero e = let t = i .turn q l in t .zeroed (awaiting-bit (s .ctl .state) q (t .ready pending) (omega arith)) e
+
+  idle-marks : AtRest (s .kinds) (s .lens) L phase → Fine s (tearMark q (s .ctl) (s .mem))
+  unfolding tearMark
+  idle-marks r =
+      rw (eq-eqb (here .hdp) 0 (idle-zero (r .rests)))
+      (fine-quiet (move-near s i q l (staged-stands s (i .sized) q l 2) (turn-stage (i .turn q l) pending 2) (rw (r .none) (r .serves (wordsOf s) (here .hdp) 2)))
+      (λ k f. refl))
+
+  before-marks : Before (s .kinds) (s .lens) L (here .hdp) (here .stage) phase → start L ≡ here .hdp → Fine s (tearMark q (s .ctl) (s .mem))
+  unfolding tearMark
+  before-marks r e =
+      let h = here .hdp in
+      let w = wordsOf s in
+      let m = s .mem in
+      let fit = i .held .fit in
+      let top = top-start L (rw e (r .good)) in
+      let f = top .f in
+      let lk : Linked w (f ∷ top .fs) = rw (top .is) at (left-linked s i q) in
+      let at : h ≡ addr f = sym e ∙ ap start (top .is) in
+      let small = tdMark-lt (w (f + 3)) (word-fits m (f + 3) fit) in
+      let v = word (marked tdMark f m) in
+      let only = marked-only tdMark f m in
+      let there : v (f + 3) ≡ tdMark (w (f + 3)) = marked-reads tdMark f m small fit (lk .0) in
+      rw (ne-eqb h 0 (λ z. omega (arith, z, at)), r .good, pointer-word at)
+      (fine-quiet
+      (touch-near s i q (marked tdMark f m) [] f (top .fs) only (top .is) l (staged-stands s (i .sized) q l 2) (marked-fits tdMark f m small fit) (turn-stage (i .turn q l) pending 2)
+      (λ k. rw (kept-torn v f (top .fs) (ap td there ∙ td-tdMark (w (f + 3)))) (r .serves v)))
+      (touch-spares s i q (marked tdMark f m) [] f (top .fs) only (top .is)))
+
+  -- the engine idle
+  clears : L ≡ [] → Fine s (answer 0 (tearClear q (s .ctl)) (s .mem))
+  clears e = at (sideOf q) refl
+    where
+      by : (ph : Phase) (o : Sided q ph) → idle ph ≡ true → Serves (s .kinds) (s .lens) (wordsOf s) L 0 3 ph
+          → Fine s (answer 0 (setStage q 3 (setState (setHdp q 0 (s .ctl .state)) (setPhase q ph (s .ctl)))) (s .mem))
+      by ph o d t = fine-quiet (move-near s i q l (cleared-stands s (i .sized) q l ph o) (rw d (turn-clear (i .turn q l) pending)) t) (λ k f. refl)
+
+      at : (side : Side) → sideOf q ≡ side
+          → Fine s (answer 0 (setStage q 3 (setState (setHdp q 0 (s .ctl .state)) (idleBy side (channelOf q) (s .ctl)))) (s .mem))
+      at Transmit o = by (sending S.Idle) o refl e
+      at Receive o = by (taking R.Idle) o refl e
+
+  reports : AtRest (s .kinds) (s .lens) L phase → Fine s (answer 0 (tearReport q (s .ctl)) (s .mem))
+  reports r =
+      fine-quiet (move-near s i q l (reported-stands s (i .sized) q l) (turn-report (i .turn q l) pending (r .rests)) (rw (r .none) (r .serves (wordsOf s) (here .hdp) 1)))
+      (λ k f. refl)
+
+  abbrev pub next : Moved
+  next =
+      pick (eqb (here .stage) 1) (tearMark q (s .ctl) (s .mem))
+      (pick (eqb (here .stage) 2) (answer 0 (tearClear q (s .ctl)) (s .mem)) (answer 0 (tearReport q (s .ctl)) (s .mem)))
+
+  next-fine : AtRest (s .kinds) (s .lens) L phase ⊎ Before (s .kinds) (s .lens) L (here .hdp) (here .stage) phase → Fine s next
+  next-fine (inl r) = three (Fine s) (here .stage) _ _ _ (λ e. idle-marks r) (λ e. clears (r .none)) (λ a b. reports r)
+  next-fine (inr r) = at (r .state)
+    where
+      at : ((here .stage ≡ 1) × (start L ≡ here .hdp)) ⊎ ((here .stage ≡ 2) × (L ≡ [])) → Fine s next
+      at (inl x) = three (Fine s) (here .stage) _ _ _ (λ e. before-marks r (x .1)) (λ e. absurd (omega (arith, e, x .0))) (λ a b. absurd (a (x .0)))
+      at (inr x) = three (Fine s) (here .stage) _ _ _ (λ e. absurd (omega (arith, e, x .0))) (λ e. clears (x .1)) (λ a b. absurd (b (x .0)))
+
+pub tear-fine : (s : Machine) → Inv s → (q : ℕ) → q < queues → Fine s (tearStep q (s .ctl) (s .mem))
+unfolding tearStep
+tear-fine s i q l =
+    by-pick (Fine s) (both (tearingOf (s .ctl .state) q) (quiet (s .ctl) q)) _ _
+    (λ e. next-fine s i q l (both-left (tearingOf (s .ctl .state) q) _ e)
+    (quiet-engine (s .kinds) (s .lens) (wordsOf s) (leftOf s (i .qs) q) _ _ (phaseOf (s .ctl) q)
+    (sym (quiet-phase (s .ctl) q) ∙ both-right (tearingOf (s .ctl .state) q) _ e) (i .engine q l)))
+    (λ e. stays-fine s i)
+
+-- ---- all engines idle
+
+pub all-rest : (K lens : List ℕ) (c : Controller) → c .channels ≡ replicate channels idleChannel → (q : ℕ) → AtRest K lens [] (phaseOf c q)
+all-rest K lens c e q = at (sideOf q)
   where
-    at : (s t : Bool) → eqb n 1 ≡ s → eqb n 2 ≡ t → P (pick s a (pick t b c))
-    at true t p q = f (eqb-true n 1 p)
-    at false true p q = g (eqb-true n 2 q)
-    at false false p q = h (eqb-false n 1 p) (eqb-false n 2 q)
+    channel : getD (c .channels) (channelOf q) idleChannel ≡ idleChannel
+    channel = ap (λ (x : List Channel). getD x (channelOf q) idleChannel) e ∙ getD-same channels (channelOf q) idleChannel
 
--- a step that is not taken
-unless : (P : Moved → Type 0) (b : Bool) (x y : Moved) → (b ≡ true → P x) → P y → P (pick b x y)
-unless P true x y f h = f refl
-unless P false x y f h = h
+    at : (side : Side) → AtRest K lens [] (phaseBy side c (channelOf q))
+    at Transmit = subst (λ (x : Channel). AtRest K lens [] (sending (x .tx))) (sym channel) (record { rests = refl; none = refl; serves = λ w h n. refl })
+    at Receive = subst (λ (x : Channel). AtRest K lens [] (taking (x .rx))) (sym channel) (record { rests = refl; none = refl; serves = λ w h n. refl })
 
--- ---- the transmit queue
+-- nothing is left, so there is nothing in a block
+pub no-room : (side : Side) (K lens : List ℕ) (w : ℕ → ℕ) → RoomIn side K lens w []
+no-room Transmit K lens w = tt
+no-room Receive K lens w = tt
 
-abbrev asTx : Sending → View → View
-asTx ph v = sends (v .store .mem) (v .t) ph (v .sent) v
-
--- what is left to say once it is pending and the engine is quiet
-abbrev tornT : View → Moved
-tornT v =
-    let c = ctlOf v in
-    let m = v .store .mem in
-    pick (eqb (v .t .stage) 1) (tearMark 0 c m) (pick (eqb (v .t .stage) 2) (answer 0 (tearClear 0 c) m) (answer 0 (tearReport 0 c) m))
-
-module _ (v : View) (g : Good (asTx S.Idle v)) (pending : v .t .torn ≡ true) where
-  -- the view that a step of an idle engine leaves
-  idle-at : (p : Post) → Turn (v .common) p (v .common .m0) true → Good (sends (v .store .mem) p S.Idle (v .sent) v)
-  idle-at p t = moveT (asTx S.Idle v) g p S.Idle (v .sent) t (g .tx)
-
-  idle-marks : Fine (asTx S.Idle v) (tearMark 0 (ctlOf (asTx S.Idle v)) (v .store .mem))
-  unfolding tearMark
-  idle-marks =
-      let z : v .t .hdp ≡ 0 = g .turnT .zeroed (marked-first (v .common) (g .turnT .ready pending)) refl in
-      rw (eq-eqb (v .t .hdp) 0 z) (fine-quiet _ _ _ _ refl (idle-at (staged 2 (v .t)) (turn-stage (g .turnT) pending 2)) (λ k f. refl))
-
-  idle-torn : Fine (asTx S.Idle v) (tornT (asTx S.Idle v))
-  idle-torn = three (Fine (asTx S.Idle v)) (v .t .stage) _ _ _
-      (λ e. idle-marks)
-      (λ e. fine-quiet _ _ _ _ refl (idle-at (cleared (v .t)) (turn-clear (g .turnT) pending)) (λ k f. refl))
-      (λ a b. fine-quiet _ _ _ _ refl (idle-at (reported (v .t)) (turn-report (g .turnT) pending refl)) (λ k f. refl))
-
-module _ (v : View) (g : Good (asTx S.New v)) (pending : v .t .torn ≡ true) where
-  new-marks : start (leftT v) ≡ v .t .hdp → Fine (asTx S.New v) (tearMark 0 (ctlOf (asTx S.New v)) (v .store .mem))
-  unfolding tearMark
-  new-marks e =
-      let h = v .t .hdp in
-      let w = wordsOf v in
-      let m = v .store .mem in
-      let top = top-start (leftT v) (rw e (g .tx .good)) in
-      let f = top .f in
-      let lk : Linked w (f ∷ top .fs) = rw (top .is) at (kept-linked w (modeOf v) (v .store .qt) (g .held .linkT)) in
-      let at : h ≡ addr f = sym e ∙ ap start (top .is) in
-      let here : wordOf h ≡ f = ap wordOf at ∙ wordOf-addr f in
-      let small = tdMark-lt (w (f + 3)) (word-fits m (f + 3) (g .held .fit)) in
-      let m′ = marked tdMark f m in
-      let only = marked-only tdMark f m in
-      let there : word m′ (f + 3) ≡ tdMark (w (f + 3)) = marked-reads tdMark f m small (g .held .fit) (lk .0) in
-      rw (ne-eqb h 0 (λ z. omega (arith, z, at)), g .tx .good, here)
-      (fine-quiet _ _ _ _ refl
-      (touchT (asTx S.New v) g [] f (top .fs) m′ only (marked-fits tdMark f m small (g .held .fit)) (staged 2 (v .t)) (top .is) S.New (v .sent) (turn-stage (g .turnT) pending 2)
-      (λ k. record { good = g .tx .good; state = inr (refl, kept-torn (word m′) f (top .fs) (ap td there ∙ td-tdMark (w (f + 3)))) }))
-      (spared w (word m′) (modeOf v) (v .store .qt) (v .store .qr) (v .store .used) [] f (top .fs) (top .is) (g .held .sole) only))
-
-  new-clears : leftT v ≡ [] → Fine (asTx S.New v) (answer 0 (tearClear 0 (ctlOf (asTx S.New v))) (v .store .mem))
-  new-clears e =
-      fine-quiet _ (sends (v .store .mem) (cleared (v .t)) S.Idle (v .sent) v) _ _ refl
-      (moveT (asTx S.New v) g (cleared (v .t)) S.Idle (v .sent) (turn-clear (g .turnT) pending) e) (λ k f. refl)
-
-  new-torn : Fine (asTx S.New v) (tornT (asTx S.New v))
-  new-torn = three (Fine (asTx S.New v)) (v .t .stage) _ _ _
-      (λ n. at-one n (g .tx .state)) (λ n. at-two n (g .tx .state)) (λ a b. absurd (neither a b (g .tx .state)))
-    where
-      Where : Type 0
-      Where = ((v .t .stage ≡ 1) × (start (leftT v) ≡ v .t .hdp) × Sendable (v .store .kinds) (wordsOf v) Start (leftT v)) ⊎ ((v .t .stage ≡ 2) × (leftT v ≡ []))
-
-      at-one : v .t .stage ≡ 1 → Where → Fine (asTx S.New v) (tearMark 0 (ctlOf (asTx S.New v)) (v .store .mem))
-      at-one n (inl x) = new-marks (x .1)
-      at-one n (inr x) = absurd (omega (arith, n, x .0))
-
-      at-two : v .t .stage ≡ 2 → Where → Fine (asTx S.New v) (answer 0 (tearClear 0 (ctlOf (asTx S.New v))) (v .store .mem))
-      at-two n (inl x) = absurd (omega (arith, n, x .0))
-      at-two n (inr x) = new-clears (x .1)
-
-      neither : v .t .stage ≢ 1 → v .t .stage ≢ 2 → Where → ⊥
-      neither a b (inl x) = a (x .0)
-      neither a b (inr x) = b (x .0)
-
--- a phase in which teardown does not step
-busy : (v : View) → Good v → (x : Moved) → Fine v (pick (both (v .t .torn) false) x (answer 0 (ctlOf v) (v .store .mem)))
-busy v g x = unless (Fine v) (both (v .t .torn) false) _ _ (λ e. clash (both-right (v .t .torn) false e) refl) (stays-fine v g)
-
-tear-phase : (ph : Sending) (v : View) → Good (asTx ph v) → Fine (asTx ph v) (tearStep 0 (ctlOf (asTx ph v)) (v .store .mem))
-unfolding tearStep
-tear-phase S.Idle v g = unless (Fine (asTx S.Idle v)) (both (v .t .torn) true) _ _ (λ e. idle-torn v g (both-left (v .t .torn) true e)) (stays-fine _ g)
-tear-phase S.New v g = unless (Fine (asTx S.New v)) (both (v .t .torn) true) _ _ (λ e. new-torn v g (both-left (v .t .torn) true e)) (stays-fine _ g)
-tear-phase (S.Within p) v g = busy (asTx (S.Within p) v) g _
-tear-phase (S.Moving r) v g = busy (asTx (S.Moving r) v) g _
-tear-phase (S.Ended x) v g = busy (asTx (S.Ended x) v) g _
-tear-phase (S.Marking c) v g = busy (asTx (S.Marking c) v) g _
-tear-phase (S.Owning c) v g = busy (asTx (S.Owning c) v) g _
-tear-phase (S.Done l) v g = busy (asTx (S.Done l) v) g _
-
-pub tear-transmit : (v : View) → Good v → Fine v (tearStep 0 (ctlOf v) (v .store .mem))
-tear-transmit v g =
-    let f = tear-phase (v .tx) v (moveT v g (v .t) (v .tx) (v .sent) (g .turnT) (g .tx)) in
-    record { inv = f .inv; number = f .number; inPlace = f .inPlace; spares = f .spares }
-
--- ---- the receive queue, likewise
-
-abbrev asRx : Receiving → View → View
-asRx ph v = takes (v .store .mem) (v .r) ph (v .received) v
-
--- what is left to say once it is pending and the engine is quiet
-abbrev tornR : View → Moved
-tornR v =
-    let c = ctlOf v in
-    let m = v .store .mem in
-    pick (eqb (v .r .stage) 1) (tearMark 1 c m) (pick (eqb (v .r .stage) 2) (answer 0 (tearClear 1 c) m) (answer 0 (tearReport 1 c) m))
-
-module _ (v : View) (g : Good (asRx R.Idle v)) (pending : v .r .torn ≡ true) where
-  -- the view that a step of an idle engine leaves
-  rest-at : (p : Post) → Turn (v .common) p (v .common .m1) true → Good (takes (v .store .mem) p R.Idle (v .received) v)
-  rest-at p t = moveR (asRx R.Idle v) g p R.Idle (v .received) t (g .rx)
-
-  rest-marks : Fine (asRx R.Idle v) (tearMark 1 (ctlOf (asRx R.Idle v)) (v .store .mem))
-  unfolding tearMark
-  rest-marks =
-      let z : v .r .hdp ≡ 0 = g .turnR .zeroed (marked-second (v .common) (g .turnR .ready pending)) refl in
-      rw (eq-eqb (v .r .hdp) 0 z) (fine-quiet _ _ _ _ refl (rest-at (staged 2 (v .r)) (turn-stage (g .turnR) pending 2)) (λ k f. refl))
-
-  rest-torn : Fine (asRx R.Idle v) (tornR (asRx R.Idle v))
-  rest-torn = three (Fine (asRx R.Idle v)) (v .r .stage) _ _ _
-      (λ e. rest-marks)
-      (λ e. fine-quiet _ _ _ _ refl (rest-at (cleared (v .r)) (turn-clear (g .turnR) pending)) (λ k f. refl))
-      (λ a b. fine-quiet _ _ _ _ refl (rest-at (reported (v .r)) (turn-report (g .turnR) pending refl)) (λ k f. refl))
-
-module _ (v : View) (g : Good (asRx R.Wait v)) (pending : v .r .torn ≡ true) where
-  wait-marks : start (leftR v) ≡ v .r .hdp → Fine (asRx R.Wait v) (tearMark 1 (ctlOf (asRx R.Wait v)) (v .store .mem))
-  unfolding tearMark
-  wait-marks e =
-      let h = v .r .hdp in
-      let w = wordsOf v in
-      let m = v .store .mem in
-      let top = top-start (leftR v) (rw e (g .rx .good)) in
-      let f = top .f in
-      let lk : Linked w (f ∷ top .fs) = rw (top .is) at (kept-linked w (modeOf v) (v .store .qr) (g .held .linkR)) in
-      let at : h ≡ addr f = sym e ∙ ap start (top .is) in
-      let here : wordOf h ≡ f = ap wordOf at ∙ wordOf-addr f in
-      let small = tdMark-lt (w (f + 3)) (word-fits m (f + 3) (g .held .fit)) in
-      let m′ = marked tdMark f m in
-      let only = marked-only tdMark f m in
-      let there : word m′ (f + 3) ≡ tdMark (w (f + 3)) = marked-reads tdMark f m small (g .held .fit) (lk .0) in
-      rw (ne-eqb h 0 (λ z. omega (arith, z, at)), g .rx .good, here)
-      (fine-quiet _ _ _ _ refl
-      (touchR (asRx R.Wait v) g [] f (top .fs) m′ only (marked-fits tdMark f m small (g .held .fit)) (staged 2 (v .r)) (top .is) R.Wait (v .received) (turn-stage (g .turnR) pending 2)
-      (λ k. record { good = g .rx .good; state = inr (refl, kept-torn (word m′) f (top .fs) (ap td there ∙ td-tdMark (w (f + 3)))) }))
-      (spared w (word m′) (modeOf v) (v .store .qr) (v .store .qt) (v .store .used) [] f (top .fs) (top .is) (sole-swapped (v .store .qt) (v .store .qr) (g .held .sole)) only))
-
-  wait-clears : leftR v ≡ [] → Fine (asRx R.Wait v) (answer 0 (tearClear 1 (ctlOf (asRx R.Wait v))) (v .store .mem))
-  wait-clears e =
-      fine-quiet _ (takes (v .store .mem) (cleared (v .r)) R.Idle (v .received) v) _ _ refl
-      (moveR (asRx R.Wait v) g (cleared (v .r)) R.Idle (v .received) (turn-clear (g .turnR) pending) e) (λ k f. refl)
-
-  wait-torn : Fine (asRx R.Wait v) (tornR (asRx R.Wait v))
-  wait-torn = three (Fine (asRx R.Wait v)) (v .r .stage) _ _ _
-      (λ n. at-one n (g .rx .state)) (λ n. at-two n (g .rx .state)) (λ a b. absurd (neither a b (g .rx .state)))
-    where
-      Where : Type 0
-      Where = ((v .r .stage ≡ 1) × (start (leftR v) ≡ v .r .hdp) × Fillable (v .store .lens) (wordsOf v) (leftR v)) ⊎ ((v .r .stage ≡ 2) × (leftR v ≡ []))
-
-      at-one : v .r .stage ≡ 1 → Where → Fine (asRx R.Wait v) (tearMark 1 (ctlOf (asRx R.Wait v)) (v .store .mem))
-      at-one n (inl x) = wait-marks (x .1)
-      at-one n (inr x) = absurd (omega (arith, n, x .0))
-
-      at-two : v .r .stage ≡ 2 → Where → Fine (asRx R.Wait v) (answer 0 (tearClear 1 (ctlOf (asRx R.Wait v))) (v .store .mem))
-      at-two n (inl x) = absurd (omega (arith, n, x .0))
-      at-two n (inr x) = wait-clears (x .1)
-
-      neither : v .r .stage ≢ 1 → v .r .stage ≢ 2 → Where → ⊥
-      neither a b (inl x) = a (x .0)
-      neither a b (inr x) = b (x .0)
-
--- a phase in which teardown does not step
-busyR : (v : View) → Good v → (x : Moved) → Fine v (pick (both (v .r .torn) false) x (answer 0 (ctlOf v) (v .store .mem)))
-busyR v g x = unless (Fine v) (both (v .r .torn) false) _ _ (λ e. clash (both-right (v .r .torn) false e) refl) (stays-fine v g)
-
-tear-stage : (ph : Receiving) (v : View) → Good (asRx ph v) → Fine (asRx ph v) (tearStep 1 (ctlOf (asRx ph v)) (v .store .mem))
-unfolding tearStep
-tear-stage R.Idle v g = unless (Fine (asRx R.Idle v)) (both (v .r .torn) true) _ _ (λ e. rest-torn v g (both-left (v .r .torn) true e)) (stays-fine _ g)
-tear-stage R.Wait v g = unless (Fine (asRx R.Wait v)) (both (v .r .torn) true) _ _ (λ e. wait-torn v g (both-left (v .r .torn) true e)) (stays-fine _ g)
-tear-stage (R.Fetch p) v g = busyR (asRx (R.Fetch p) v) g _
-tear-stage (R.Moving r) v g = busyR (asRx (R.Moving r) v) g _
-tear-stage (R.Ended x) v g = busyR (asRx (R.Ended x) v) g _
-tear-stage (R.Last c) v g = busyR (asRx (R.Last c) v) g _
-tear-stage (R.First c) v g = busyR (asRx (R.First c) v) g _
-tear-stage (R.Done l) v g = busyR (asRx (R.Done l) v) g _
-
-pub tear-receive : (v : View) → Good v → Fine v (tearStep 1 (ctlOf v) (v .store .mem))
-tear-receive v g =
-    let f = tear-stage (v .rx) v (moveR v g (v .r) (v .rx) (v .received) (g .turnR) (g .rx)) in
-    record { inv = f .inv; number = f .number; inPlace = f .inPlace; spares = f .spares }
-
--- ---- the reset: both queues are the book's to drop, at its next release
+-- ---- the reset: every queue is the book's to drop, at its next release
 
 abbrev unmarking : Common → Common
-unmarking c = record {
-  bit = false;
-  bookReset = c .bookReset;
-  bookMarks = c .bookMarks;
-  reset = false;
-  m0 = false;
-  m1 = false;
-  m2 = false;
-  m3 = false;
-}
-
-abbrev resetView : View → View
-resetView v = record {
-  store = v .store;
-  t = v .t;
-  r = v .r;
-  common = unmarking (v .common);
-  tx = S.Idle;
-  rx = R.Idle;
-  sent = v .sent;
-  received = v .received;
-}
+unmarking c = record { bit = false; reset = false; marks = 0; waits = true; bookReset = c .bookReset; bookMarks = c .bookMarks }
 
 reset-booked : (c : Common) → Shared c → c .reset ≡ true → c .bookReset ≡ true
 reset-booked c s r = at (over c) (s .resets ∙ r)
@@ -336,7 +325,10 @@ reset-booked c s r = at (over c) (s .resets ∙ r)
     at true e = clash e refl
     at false e = e
 
-turn-reset : {c : Common} {p : Post} {mark idle : Bool} → Turn c p mark idle → c .reset ≡ true → Turn (unmarking c) p false true
+abbrev unmarked-post : Post → Post
+unmarked-post p = record { hdp = p .hdp; cp = p .cp; stage = p .stage; mark = false; booked = p .booked; tearing = p .tearing }
+
+turn-reset : {c : Common} {p : Post} {rests : Bool} → Turn c p rests → c .reset ≡ true → Turn (unmarking c) (unmarked-post p) true
 turn-reset t r = record {
   settles = t .settles;
   young = t .young;
@@ -348,22 +340,66 @@ turn-reset t r = record {
   zeroed = λ m i. clash m refl;
 }
 
-reset-good : (v : View) → Good v → v .common .reset ≡ true → Good (resetView v)
-reset-good v g r =
-    let b = reset-booked (v .common) (g .shared) r in
-    record {
-      held = g .held;
-      shared = record { resets = rw b refl; marks = rw b refl; bits = refl; ready = λ e. clash e refl };
-      turnT = turn-reset (g .turnT) r;
-      turnR = turn-reset (g .turnR) r;
-      tx = rw b (kept-whole (wordsOf v) (v .store .qt));
-      rx = rw b (kept-whole (wordsOf v) (v .store .qr));
-      room = rw (b, kept-whole (wordsOf v) (v .store .qr)) tt;
-    }
+module _ (s : Machine) (i : Inv s) (r : commonOf s .reset ≡ true) where
+  abbrev t : List ℕ
+  t = s .ctl .state
 
-pub reset-fine : (v : View) → Good v → Fine v (resetStep (ctlOf v) (v .store .mem))
+  abbrev after : Machine
+  after = withCtl (setState (setResetBit 0 (unmarked t)) (setChannels (replicate channels idleChannel) (s .ctl))) (s .mem) s
+
+  common-reset : commonOf after ≡ unmarking (commonOf s)
+  common-reset =
+      let l = i .sized .ctl .size in
+      let u = unmarked t in
+      let lu = length-unmarked t ∙ l in
+      let a : bitOf (setResetBit 0 u) ≡ false = bitOf-setResetBit u 0 lu in
+      let b = resetOf-setResetBit u 0 ∙ resetOf-unmarked t l in
+      let c = marksOf-setResetBit u 0 ∙ marksOf-unmarked t l in
+      let d = awaiting-setResetBit u 0 ∙ awaiting-unmarked t l in
+      cc
+
+  post-reset : (q : ℕ) → q < queues → postOf after q ≡ unmarked-post (postOf s q)
+  post-reset q l =
+      let u = unmarked t in
+      let a = hdpOf-setResetBit u 0 q l ∙ hdpOf-unmarked t q l in
+      let b = cpOf-setResetBit u 0 q l ∙ cpOf-unmarked t q l in
+      let c : bit q (marksOf (setResetBit 0 u)) ≡ false = ap (bit q) (marksOf-setResetBit u 0 ∙ marksOf-unmarked t (i .sized .ctl .size)) ∙ bit-none q in
+      let d = tearingOf-setResetBit u 0 q ∙ tearingOf-unmarked t q in
+      cc
+
+  booked : commonOf s .bookReset ≡ true
+  booked = reset-booked (commonOf s) (i .shared) r
+
+  left-reset : (q : ℕ) → leftOf after (i .qs) q ≡ []
+  left-reset q =
+      ap (λ (c : Common). kept (wordsOf s) (pick (over c) Whole Head) (queueAt (i .qs) q)) common-reset ∙ rw booked (kept-whole (wordsOf s) (queueAt (i .qs) q))
+
+  rest : (q : ℕ) → AtRest (s .kinds) (s .lens) [] (phaseOf (after .ctl) q)
+  rest = all-rest (s .kinds) (s .lens) (after .ctl) refl
+
+  reset-inv : Inv after
+  reset-inv =
+      let h = i .held in
+      record {
+        qs = i .qs;
+        sized = record {
+          book = i .sized .book;
+          ctl = fits-table (length-setResetBit (unmarked t) 0 ∙ length-unmarked t ∙ i .sized .ctl .size)
+              (flagsFit-setResetBit (unmarked t) 0 ∙ flagsFit-unmarked t (table-fits (i .sized .ctl)));
+          stages = i .sized .stages;
+          channels = length-replicate channels idleChannel;
+        };
+        defined = i .defined;
+        held = record { fit = h .fit; kinds = h .kinds; many = h .many; heads = h .heads; linked = h .linked; sole = h .sole; recorded = h .recorded };
+        shared = shared-of common-reset (record { resets = rw booked refl; marks = rw booked refl; bits = refl; ready = λ e. clash e refl });
+        turn = λ q l. turn-of common-reset (post-reset q l) (rest q .rests) (turn-reset (i .turn q l) r);
+        engine = λ q l. rw (left-reset q) (rest q .serves (wordsOf s) _ _);
+        room = λ q l. rw (left-reset q) (no-room (sideOf q) (s .kinds) (s .lens) (wordsOf s));
+      }
+
+pub reset-fine : (s : Machine) → Inv s → Fine s (resetStep (s .ctl) (s .mem))
 unfolding resetStep
-reset-fine v g =
-    unless (Fine v) (both (v .common .reset) (both (quietTx (v .tx)) (quietRx (v .rx)))) _ _
-    (λ e. fine-quiet v (resetView v) _ _ refl (reset-good v g (both-left (v .common .reset) _ e)) (λ k f. refl))
-    (stays-fine v g)
+reset-fine s i =
+    by-pick (Fine s) (both (resetOf (s .ctl .state)) (allQuiet (s .ctl .channels))) _ _
+    (λ e. fine-quiet (reset-inv s i (both-left (resetOf (s .ctl .state)) _ e)) (λ k f. refl))
+    (λ e. stays-fine s i)

@@ -6,44 +6,46 @@
 --       innerWrite, innerKind   release and judge alone, without the checks behind 1 and 2, give what the full call gives
 --       refusedWrite, refusedKind   a refused guard call leaves memory, registers and kinds, and the book as the release makes it
 --       ownership            no operation changes whose a block is
---       zeroTransmit, zeroReceive   an HDP of 0 is an idle engine
+--       zeroTransmit, zeroReceive   an HDP of 0 is an idle engine, on each channel
 --       idleTransmit, idleReceive   and an idle engine has an empty queue, once the release has run
 --       once                 the release is idempotent
 --       sound, stays         the book is sound, and a guard call on it, as any operation, leaves a sound one
 --     inv-follows          the invariant gives them
 --     follows-always       every sequence from a fresh start does
 --     entries-agree        what two functions give that promise the same outcome is the same: the inner and the full entry do
-use Prim.Native.Nat.{ℕ, _≤_}
-use mathlib.Core.Path.{_≡_, refl, ap, _∙_, sym, subst}
+use Prim.Native.Nat.{ℕ, _<_}
+use mathlib.Core.Path.{_≡_, refl, ap, _∙_, sym}
 use mathlib.Core.Bool.{true}
 use mathlib.Core.List.{List, [], _∷_}
-use mathlib.Core.Logic.{inl, inr, _≢_}
+use mathlib.Core.Logic.{_≢_}
 use native.Mathlib.Omega.{arith}
 use borrow.Author.Tests.{ne-eqb}
-use Rattle.layout.specs.Layout.{goodPtr, addr}
+use Rattle.layout.specs.Layout.{goodPtr, addr, channels, queueOf}
+use Rattle.layout.specs.declared.Side.the-variants.{Transmit, Receive}
 use Rattle.layout.proofs.PointerLaws.{goodPtr-bounds}
 use Rattle.blocks.specs.Kinds.{fitKinds}
-use Rattle.registers.specs.Pending.{hdpOf}
-use Rattle.book.specs.World.{World, headOf, soundWorld, release}
+use Rattle.registers.specs.Table.{headOf, hdpOf}
+use Rattle.book.specs.World.{soundWorld, release}
 use Rattle.queue.specs.Queue.{start}
-use Rattle.guard.specs.declared.Done.{Done}
 use Rattle.guard.specs.declared.Answer.{Answer}
 use Rattle.guard.specs.Answers.{Outcome, numberOf, Gives}
 use Rattle.guard.specs.Judges.{judge}
-use Rattle.guard.specs.Guard.{admitted, guestWrite, judgeKind, kindChange}
+use Rattle.guard.specs.Guard.{guestWrite}
+use Rattle.kinds.specs.Kinds.{judgeKind, kindChange}
 use Rattle.phases.specs.declared.Sending.{Sending}
 use Rattle.phases.specs.declared.Sending.the-variants as S
 use Rattle.phases.specs.declared.Receiving.{Receiving}
 use Rattle.phases.specs.declared.Receiving.the-variants as R
+use Rattle.controller.specs.Controller.{txOf, rxOf}
 use Rattle.machine.specs.Machine.{Machine, Op, write, kind, apply, runOps, worldOf, carriedOut, applyWrite, applyKind, freshMachine}
 use Rattle.safety.specs.Statement.{Legal, AllLegal}
-use Rattle.safety.proofs.View.{View, build}
-use Rattle.safety.proofs.Inv.{TxInv, RxInv, Good, Inv}
+use Rattle.safety.proofs.Inv.{TxInv, RxInv, Inv}
+use Rattle.safety.proofs.Marks.{queue-lt, phase-queue}
 use Rattle.safety.proofs.Machines.{fresh-inv}
-use Rattle.safety.proofs.Calm.{Calm, released, release-is, release-calm}
-use Rattle.safety.proofs.Twice.{release-twice, never-unfit, never-unsound}
-use Rattle.safety.proofs.Refusals.{Number, Untouched, refused-write, refused-kind}
-use Rattle.safety.proofs.Numbers.{answer-is, write-number, kind-number}
+use Rattle.safety.proofs.Calm.{release-calm}
+use Rattle.safety.proofs.Twice.{release-twice, never-unsound}
+use Rattle.safety.proofs.Refusals.{Number, number-not, Untouched, refused-write, refused-kind}
+use Rattle.safety.proofs.Numbers.{admitted-acts, answer-is, guest-number, change-number, write-number, kind-number}
 use Rattle.safety.proofs.KindChanges.{isOwned, ownership-kept}
 use Rattle.safety.proofs.Always.{apply-inv, run-inv}
 
@@ -51,7 +53,7 @@ pub record Alone (s t : Machine) : Type 0 where
   pub ctl : t .ctl ≡ s .ctl
   pub mem : t .mem ≡ s .mem
   pub kinds : t .kinds ≡ s .kinds
-  pub book : t .book ≡ release (worldOf s) .book
+  pub state : t .state ≡ release (worldOf s) .state
   pub used : t .used ≡ release (worldOf s) .used
   pub lens : t .lens ≡ release (worldOf s) .lens
 
@@ -63,26 +65,22 @@ pub record Follows (s : Machine) : Type 0 where
   pub refusedWrite : (a x : ℕ) → numberOf (apply (write a x) s .answer) ≢ 0 → Alone s (apply (write a x) s .machine)
   pub refusedKind : (b k : ℕ) → numberOf (apply (kind b k) s .answer) ≢ 0 → Alone s (apply (kind b k) s .machine)
   pub ownership : (o : Op) (i : ℕ) → isOwned (apply o s .machine .kinds) i ≡ isOwned (s .kinds) i
-  pub zeroTransmit : hdpOf (s .ctl .regs) 0 ≡ 0 → s .ctl .tx ≡ S.Idle
-  pub zeroReceive : hdpOf (s .ctl .regs) 1 ≡ 0 → s .ctl .rx ≡ R.Idle
-  pub idleTransmit : s .ctl .tx ≡ S.Idle → headOf (release (worldOf s)) 0 ≡ 0
-  pub idleReceive : s .ctl .rx ≡ R.Idle → headOf (release (worldOf s)) 1 ≡ 0
+  pub zeroTransmit : (c : ℕ) → c < channels → hdpOf (s .ctl .state) (queueOf Transmit c) ≡ 0 → txOf (s .ctl) c ≡ S.Idle
+  pub zeroReceive : (c : ℕ) → c < channels → hdpOf (s .ctl .state) (queueOf Receive c) ≡ 0 → rxOf (s .ctl) c ≡ R.Idle
+  pub idleTransmit : (c : ℕ) → c < channels → txOf (s .ctl) c ≡ S.Idle → headOf (release (worldOf s) .state) (queueOf Transmit c) ≡ 0
+  pub idleReceive : (c : ℕ) → c < channels → rxOf (s .ctl) c ≡ R.Idle → headOf (release (worldOf s) .state) (queueOf Receive c) ≡ 0
   pub once : release (release (worldOf s)) ≡ release (worldOf s)
   pub sound : soundWorld (worldOf s) ≡ true
   pub stays : (o : Op) → Legal o → soundWorld (worldOf (apply o s .machine)) ≡ true
 
 -- ---- refusals, of the machine
 
-number-not : (n k : ℕ) → Number n → 1 ≤ k → k ≤ 2 → n ≢ k
-number-not n k (inl e) low high z = omega (arith, e, z, low)
-number-not n k (inr b) low high z = let l = b .0 in omega (arith, l, z, high)
-
 refused-machine : (a x : ℕ) (o : Outcome) (s : Machine) → numberOf (o .answer) ≢ 0 → Untouched (worldOf s) o → Alone s (carriedOut a x o s .machine)
 refused-machine a x o s n u = rw (ne-eqb (numberOf (o .answer)) 0 n) (record {
   ctl = refl;
   mem = u .mem;
   kinds = u .kinds;
-  book = u .book;
+  state = u .state;
   used = u .used;
   lens = u .lens;
 })
@@ -115,64 +113,67 @@ rx-zero lens w L h n (R.Last s) t z = absurd (addr-not-zero h _ (t .taken .spot 
 rx-zero lens w L h n (R.First s) t z = absurd (addr-not-zero h _ (t .owned .spot .here) z)
 rx-zero lens w L h n (R.Done l) t z = absurd (good-not-zero h (t .good) z)
 
--- the queue of an idle engine is empty
-idle-tx : (v : View) → Calm v → v .tx ≡ S.Idle → start (v .store .qt) ≡ 0
-idle-tx v c e = ap start (rw e at (c .tx))
-
-idle-rx : (v : View) → Calm v → v .rx ≡ R.Idle → start (v .store .qr) ≡ 0
-idle-rx v c e = ap start (rw e at (c .rx))
-
 -- ---- all of them
 
-module _ (v : View) (g : Good v) where
-  inner : (act : World → Outcome) → act (release (worldOf (build v))) ≡ admitted (worldOf (build v)) act
-  unfolding admitted
-  inner act = rw (never-unfit v g, never-unsound v g) refl
-
-  guard-number : (a x : ℕ) → Number (numberOf (apply (write a x) (build v) .answer)) → Number (numberOf (guestWrite a x (worldOf (build v)) .answer))
-  guard-number a x n = subst (λ (y : Answer). Number (numberOf y)) (answer-is a x v g) n
-
-  refused-write-alone : (a x : ℕ) → Number (numberOf (apply (write a x) (build v) .answer))
-      → numberOf (apply (write a x) (build v) .answer) ≢ 0 → Alone (build v) (apply (write a x) (build v) .machine)
+module _ (s : Machine) (i : Inv s) where
+  refused-write-alone : (a x : ℕ) → numberOf (apply (write a x) s .answer) ≢ 0 → Alone s (apply (write a x) s .machine)
   unfolding applyWrite
-  refused-write-alone a x n e =
-      let s = worldOf (build v) in
-      let m = guard-number a x n in
-      let d : numberOf (guestWrite a x s .answer) ≢ 0 = λ z. e (ap numberOf (answer-is a x v g) ∙ z) in
-      refused-machine a x (guestWrite a x s) (build v) d
-      (refused-write a x s d (number-not _ 1 m (omega arith) (omega arith)) (number-not _ 2 m (omega arith) (omega arith)))
+  refused-write-alone a x e =
+      let m = guest-number a x s i in
+      let d : numberOf (guestWrite a x (worldOf s) .answer) ≢ 0 = λ z. e (ap numberOf (answer-is a x s i) ∙ z) in
+      refused-machine a x (guestWrite a x (worldOf s)) s d (refused-write a x (worldOf s) d (number-not _ 1 m refl) (number-not _ 2 m refl))
 
-  refused-kind-alone : (b k : ℕ) → Number (numberOf (apply (kind b k) (build v) .answer))
-      → numberOf (apply (kind b k) (build v) .answer) ≢ 0 → Alone (build v) (apply (kind b k) (build v) .machine)
+  refused-kind-alone : (b k : ℕ) → numberOf (apply (kind b k) s .answer) ≢ 0 → Alone s (apply (kind b k) s .machine)
   unfolding applyKind
-  refused-kind-alone b k m d =
-      let u = refused-kind b k (worldOf (build v)) d (number-not _ 1 m (omega arith) (omega arith)) (number-not _ 2 m (omega arith) (omega arith)) in
-      record { ctl = refl; mem = u .mem; kinds = u .kinds; book = u .book; used = u .used; lens = u .lens }
+  refused-kind-alone b k d =
+      let m = change-number b k s i in
+      let u = refused-kind b k (worldOf s) d (number-not _ 1 m refl) (number-not _ 2 m refl) in
+      record { ctl = refl; mem = u .mem; kinds = u .kinds; state = u .state; used = u .used; lens = u .lens }
 
-inv-sound : (s : Machine) → Inv s → soundWorld (worldOf s) ≡ true
-inv-sound s i = ap (λ (t : Machine). soundWorld (worldOf t)) (i .is) ∙ never-unsound (i .view) (i .good)
+  -- the clause of each engine
+  transmits : (c : ℕ) → c < channels → hdpOf (s .ctl .state) (queueOf Transmit c) ≡ 0 → txOf (s .ctl) c ≡ S.Idle
+  transmits c h z =
+      let q = queueOf Transmit c in
+      tx-zero _ _ _ (hdpOf (s .ctl .state) q) _ (txOf (s .ctl) c) (rw (phase-queue Transmit (s .ctl) c) at (i .engine q (queue-lt Transmit c h))) z
 
-good-follows : (v : View) (g : Good v) → Inv (build v) → Follows (build v)
-unfolding guestWrite kindChange
-good-follows v g i = record {
-  writes = λ a x. write-number a x (build v) i;
-  changes = λ b k. kind-number b k (build v) i;
-  innerWrite = λ a x. inner v g (λ t. judge a x t);
-  innerKind = λ b k. inner v g (λ t. judgeKind (b ∷ []) k t);
-  refusedWrite = λ a x. refused-write-alone v g a x (write-number a x (build v) i);
-  refusedKind = λ b k. refused-kind-alone v g b k (kind-number b k (build v) i);
-  ownership = λ o j. ownership-kept o (build v) j;
-  zeroTransmit = tx-zero _ _ _ (v .t .hdp) _ (v .tx) (g .tx);
-  zeroReceive = rx-zero _ _ _ (v .r .hdp) _ (v .rx) (g .rx);
-  idleTransmit = λ e. ap (λ (t : World). headOf t 0) (release-is v g) ∙ idle-tx (released v) (release-calm v g) e;
-  idleReceive = λ e. ap (λ (t : World). headOf t 1) (release-is v g) ∙ idle-rx (released v) (release-calm v g) e;
-  once = release-twice (worldOf (build v)) (never-unsound v g);
-  sound = never-unsound v g;
-  stays = λ o l. inv-sound (apply o (build v) .machine) (apply-inv o l (build v) i);
-}
+  receives : (c : ℕ) → c < channels → hdpOf (s .ctl .state) (queueOf Receive c) ≡ 0 → rxOf (s .ctl) c ≡ R.Idle
+  receives c h z =
+      let q = queueOf Receive c in
+      rx-zero _ _ _ (hdpOf (s .ctl .state) q) _ (rxOf (s .ctl) c) (rw (phase-queue Receive (s .ctl) c) at (i .engine q (queue-lt Receive c h))) z
+
+  -- the queue of an idle engine is empty
+  rests-transmit : (c : ℕ) → c < channels → txOf (s .ctl) c ≡ S.Idle → headOf (release (worldOf s) .state) (queueOf Transmit c) ≡ 0
+  rests-transmit c h e =
+      let q = queueOf Transmit c in
+      let l = queue-lt Transmit c h in
+      let k = release-calm s i in
+      k .held .heads q l ∙ ap start (rw (phase-queue Transmit (s .ctl) c, e) at (k .engine q l))
+
+  rests-receive : (c : ℕ) → c < channels → rxOf (s .ctl) c ≡ R.Idle → headOf (release (worldOf s) .state) (queueOf Receive c) ≡ 0
+  rests-receive c h e =
+      let q = queueOf Receive c in
+      let l = queue-lt Receive c h in
+      let k = release-calm s i in
+      k .held .heads q l ∙ ap start (rw (phase-queue Receive (s .ctl) c, e) at (k .engine q l))
 
 pub inv-follows : (s : Machine) → Inv s → Follows s
-inv-follows s i = subst Follows (sym (i .is)) (good-follows (i .view) (i .good) (subst Inv (i .is) i))
+unfolding guestWrite kindChange
+inv-follows s i = record {
+  writes = λ a x. write-number a x s i;
+  changes = λ b k. kind-number b k s i;
+  innerWrite = λ a x. sym (admitted-acts s i (λ t. judge a x t));
+  innerKind = λ b k. sym (admitted-acts s i (λ t. judgeKind (b ∷ []) k t));
+  refusedWrite = refused-write-alone s i;
+  refusedKind = refused-kind-alone s i;
+  ownership = λ o j. ownership-kept o s j;
+  zeroTransmit = transmits s i;
+  zeroReceive = receives s i;
+  idleTransmit = rests-transmit s i;
+  idleReceive = rests-receive s i;
+  once = release-twice (worldOf s) (never-unsound s i);
+  sound = never-unsound s i;
+  stays = λ o l. never-unsound (apply o s .machine) (apply-inv o l s i);
+}
 
 pub follows-always : (kinds : List ℕ) → fitKinds kinds ≡ true → (os : List Op) → AllLegal os → Follows (runOps os (freshMachine kinds))
 follows-always kinds f os l = inv-follows (runOps os (freshMachine kinds)) (run-inv os l (freshMachine kinds) (fresh-inv kinds f))
@@ -181,14 +182,13 @@ follows-always kinds f os l = inv-follows (runOps os (freshMachine kinds)) (run-
 
 -- "Any two outcomes allowed by one promise are proved the same": `guest_write` and `guest_write_sound` promise `Gives` of the same
 -- outcome, and so do `kind_change` and `kind_change_sound`
-pub entries-agree : (o : Outcome) (d e : Done) (m k u l m' k' u' l' : List ℕ) → Gives o d m k u l → Gives o e m' k' u' l'
-    → (d .answer ≡ e .answer) × (d .book ≡ e .book) × (d .regs ≡ e .regs) × (m ≡ m') × (k ≡ k') × (u ≡ u') × (l ≡ l')
-entries-agree o d e m k u l m' k' u' l' g h = (
+pub entries-agree : (o : Outcome) (d e : Answer) (m k t u l m' k' t' u' l' : List ℕ) → Gives o d m k t u l → Gives o e m' k' t' u' l'
+    → (d ≡ e) × (m ≡ m') × (k ≡ k') × (t ≡ t') × (u ≡ u') × (l ≡ l')
+entries-agree o d e m k t u l m' k' t' u' l' g h = (
   g .answer ∙ sym (h .answer),
-  g .book ∙ sym (h .book),
-  g .regs ∙ sym (h .regs),
   g .mem ∙ sym (h .mem),
   g .kinds ∙ sym (h .kinds),
+  g .state ∙ sym (h .state),
   g .used ∙ sym (h .used),
   g .lens ∙ sym (h .lens),
 )

@@ -1,4 +1,4 @@
--- `bench::act`: a record within the window leaves one that fits. Assumes nothing.
+-- `bench::act` meets its contract: a record within the window leaves one that fits. Assumes nothing.
 use native.Mathlib.Omega.{arith}
 use Rattle.bench.proofs.WindowLaws.{good-fits}
 use borrow.Author.Needs.{needs}
@@ -30,7 +30,9 @@ play-requires : tie.Need-play-requires
 play-requires c κs = search needs
 
 go-on-requires : tie.Need-go-on-requires
-go-on-requires c κs = (omega (arith, c .before .before .before .before .before .before .play .ensures .0, c .before .before .before .before .before .before .before .before .before .before .before .before .before .before .before .before .before .before .pre .2), good-fits _ _ (c .before .before .before .before .before .before .before .before .before .before .before .before .before .d .given .1) (c .before .before .before .before .before .before .before .before .before .before .before .before .before .before .before .before .before .before .pre .0), c .before .before .before .before .before .before .before .before .before .before .before .before .before .before .before .before .before .before .pre .1)
+go-on-requires c κs =
+    let h = c .before .before .before .before .before .before .before .before .before .before .before .before .before .before .before .before .before .before .before .pre in
+    (omega (arith, c .before .before .before .before .before .before .play .ensures .0, h .2), good-fits _ _ (c .before .before .before .before .before .before .before .before .before .before .before .before .before .before .d .given .1) (h .0), h .1)
 
 same-length : tie.Need-same-length
 same-length c = search needs
@@ -57,4 +59,23 @@ returns-3 : tie.Need-returns-3
 returns-3 c = search needs
 
 pub act-spec : {M : Type 1} → statement M
-act-spec = tie.close (tie.spec enum-told finish-sent-requires stop-requires enum-told-2 finish-bad-requires stop-requires-2 enum-known-d play-requires go-on-requires same-length returns same-length-2 returns-2 same-length-3 same-length-4 same-length-5 returns-3)
+act-spec =
+    tie.close
+    (tie.spec
+    enum-told
+    finish-sent-requires
+    stop-requires
+    enum-told-2
+    finish-bad-requires
+    stop-requires-2
+    enum-known-d
+    play-requires
+    go-on-requires
+    same-length
+    returns
+    same-length-2
+    returns-2
+    same-length-3
+    same-length-4
+    same-length-5
+    returns-3)

@@ -1,4 +1,4 @@
--- `bench::take_turn`: window, lines and record, each by its own function. Assumes nothing.
+-- `bench::take_turn` meets its contract: window, lines and record, each by its own function. Assumes nothing.
 use borrow.Author.Needs.{needs}
 use Rattle.bench.proofs.take_turn.Statement.{statement}
 use Rattle.bench.proofs.take_turn.Tie as tie
@@ -16,7 +16,7 @@ act-requires : tie.Need-act-requires
 act-requires c κs = search needs
 
 same-length : tie.Need-same-length
-same-length c = c .before .before .before .before .before .before .before .before .before .before .before .before .before .before .before .before .before .before .refill .kept .0
+same-length c = c .before .before .before .before .before .before .before .before .before .before .before .before .before .before .before .before .before .before .before .refill .kept .0
 
 same-length-2 : tie.Need-same-length-2
 same-length-2 c = search needs
@@ -31,4 +31,15 @@ returns : tie.Need-returns
 returns c = search needs
 
 pub take-turn-spec : {M : Type 1} → statement M
-take-turn-spec = tie.close (tie.spec refill-requires flush-requires next-record-requires act-requires same-length same-length-2 same-length-3 same-length-4 returns)
+take-turn-spec =
+    tie.close
+    (tie.spec
+    refill-requires
+    flush-requires
+    next-record-requires
+    act-requires
+    same-length
+    same-length-2
+    same-length-3
+    same-length-4
+    returns)

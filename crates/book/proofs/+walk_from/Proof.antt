@@ -4,7 +4,7 @@ use mathlib.Core.Path.{refl}
 use borrow.Author.Needs.{needs}
 use borrow.Fn.Kinds.{In}
 use borrow.Fn.PlainCycle.{Measures, is, falls, and}
-use Rattle.words.specs.WordSet.{freeCount, view}
+use Rattle.words.specs.WordSet.{freeCount}
 use Rattle.book.specs.declared.Hop.the-variants.{Stop, Go}
 use Rattle.book.proofs.SoundLaws.{walk-hop, walk-falls}
 use Rattle.book.proofs.walk_from.Reads as walk-from
@@ -15,7 +15,7 @@ use Rattle.book.proofs.+walk_from.{statement}
 use Rattle.book.proofs.+walk_from.Tie.{close}
 
 abbrev μ-walk-from : Measures 3 walk-from-kinds.ps ℕ
-μ-walk-from κs a = freeCount (view (a .1 .0 .now))
+μ-walk-from κs a = freeCount (a .1 .0 .now)
 
 abbrev walk-from-at : ℕ → In 3 walk-from-kinds.ps
 walk-from-at t =

@@ -1,5 +1,5 @@
 -- `book::lengths_fit` has tested the entries that it has passed. Assumes nothing.
-use Prim.Native.Nat.{ℕ, _<_, _≤_, _-_}
+use Prim.Native.Nat.{_<_, _≤_, _-_}
 use mathlib.Core.Path.{_≡_, refl, _∙_, ap}
 use mathlib.Core.Bool.{Bool}
 use native.Mathlib.Omega.{arith}

@@ -14,22 +14,22 @@ returns c = walkStep-bad _ _ _ (no-of (c .before .is-good .ensures) (c .if1 .tak
 word-number-requires : tie.Need-word-number-requires
 word-number-requires c κs = yes-of (c .before .is-good .ensures) (c .if1 .left)
 
-is-free-requires : tie.Need-is-free-requires
-is-free-requires c κs = search needs
+four-free-requires : tie.Need-four-free-requires
+four-free-requires c κs = search needs
 
 returns-2 : tie.Need-returns-2
 returns-2 c =
-    let n = c .before .before .before in
+    let n = c .before .before .before .before in
     walkStep-met
     _
     _
     _
     (yes-of (n .before .before .is-good .ensures) (n .before .if1 .left))
     (n .word-number .ensures .0)
-    (no-of (c .before .is-free .ensures) (c .if2 .taken))
+    (no-of (c .before .four-free .ensures) (c .if2 .taken))
 
-add-four-requires : tie.Need-add-four-requires
-add-four-requires c κs = search needs
+take-four-requires : tie.Need-take-four-requires
+take-four-requires c κs = search needs
 
 word-of-requires : tie.Need-word-of-requires
 word-of-requires c κs = search needs
@@ -37,15 +37,15 @@ word-of-requires c κs = search needs
 returns-3 : tie.Need-returns-3
 returns-3 c =
     let f = c .before .before .before in
-    let n = f .before .before .before in
+    let n = f .before .before .before .before in
     walkStep-go
     _
     _
     _
     (yes-of (n .before .before .is-good .ensures) (n .before .if1 .left))
     (n .word-number .ensures .0)
-    (yes-of (f .before .is-free .ensures) (f .if2 .left))
-    (c .before .add-four .ensures)
+    (yes-of (f .before .four-free .ensures) (f .if2 .left))
+    (c .before .take-four .ensures)
     (c .word-of .ensures)
 
 pub meet-at-spec : {M : Type 1} → statement M
@@ -55,8 +55,8 @@ meet-at-spec =
     is-good-requires
     returns
     word-number-requires
-    is-free-requires
+    four-free-requires
     returns-2
-    add-four-requires
+    take-four-requires
     word-of-requires
     returns-3)

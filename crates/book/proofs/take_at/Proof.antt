@@ -1,7 +1,7 @@
 -- `book::take_at` is one step of the hand-over: each way out is a case of the step. Assumes nothing.
 use borrow.Author.Needs.{needs}
 use Rattle.layout.proofs.ChoiceLaws.{yes-of, no-of}
-use Rattle.book.proofs.HandOverLaws.{takeStep-bad, takeStep-met, takeStep-go, freeAt-view}
+use Rattle.book.proofs.HandOverLaws.{takeStep-bad, takeStep-met, takeStep-go}
 use Rattle.book.proofs.take_at.Statement.{statement}
 use Rattle.book.proofs.take_at.Tie as tie
 
@@ -14,12 +14,12 @@ returns c = takeStep-bad _ _ _ _ (no-of (c .before .is-good .ensures) (c .if1 .t
 word-number-requires : tie.Need-word-number-requires
 word-number-requires c κs = yes-of (c .before .is-good .ensures) (c .if1 .left)
 
-is-free-requires : tie.Need-is-free-requires
-is-free-requires c κs = search needs
+four-free-requires : tie.Need-four-free-requires
+four-free-requires c κs = search needs
 
 returns-2 : tie.Need-returns-2
 returns-2 c =
-    let n = c .before .before .before in
+    let n = c .before .before .before .before in
     takeStep-met
     _
     _
@@ -27,7 +27,7 @@ returns-2 c =
     _
     (yes-of (n .before .before .is-good .ensures) (n .before .if1 .left))
     (n .word-number .ensures .0)
-    (no-of (freeAt-view _ _ (c .before .is-free .ensures)) (c .if2 .taken))
+    (no-of (c .before .four-free .ensures) (c .if2 .taken))
 
 add-word-of : tie.Need-add-word-of
 add-word-of c = search needs
@@ -44,7 +44,7 @@ word-of-requires-2 c κs = search needs
 returns-3 : tie.Need-returns-3
 returns-3 c =
     let f = c .before .before .before .before .before in
-    let n = f .before .before .before in
+    let n = f .before .before .before .before in
     takeStep-go
     _
     _
@@ -52,7 +52,7 @@ returns-3 c =
     _
     (yes-of (n .before .before .is-good .ensures) (n .before .if1 .left))
     (n .word-number .ensures .0)
-    (yes-of (freeAt-view _ _ (f .before .is-free .ensures)) (f .if2 .left))
+    (yes-of (f .before .four-free .ensures) (f .if2 .left))
     (c .before .before .before .before .word-of .ensures)
     (c .before .take-one .ensures)
     (c .word-of2 .ensures)
@@ -64,7 +64,7 @@ take-at-spec =
     is-good-requires
     returns
     word-number-requires
-    is-free-requires
+    four-free-requires
     returns-2
     add-word-of
     word-of-requires

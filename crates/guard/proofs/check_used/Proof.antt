@@ -1,6 +1,6 @@
 -- `guard::check_used`: the words met begin with the words in use. Assumes nothing.
 use borrow.Author.Needs.{needs}
-use Rattle.guard.proofs.TableLaws.{verdict-used}
+use Rattle.guard.proofs.ChainLaws.{verdict-used}
 use Rattle.guard.proofs.check_used.Statement.{statement}
 use Rattle.guard.proofs.check_used.Tie as tie
 

@@ -1,6 +1,6 @@
 -- `guard::judge_append`: the chain is judged over the words in use; without fault it is taken and its address stored. Assumes nothing.
 use borrow.Author.Needs.{needs}
-use Rattle.guard.proofs.TableLaws.{append-refused, append-taken}
+use Rattle.guard.proofs.ChainLaws.{append-refused, append-taken}
 use Rattle.guard.proofs.judge_append.Statement.{statement}
 use Rattle.guard.proofs.judge_append.Tie as tie
 

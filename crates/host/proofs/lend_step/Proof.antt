@@ -46,7 +46,7 @@ use denote.Exit.{yes}
 use denote.Signature.{plain}
 use Rattle.controller.specs.declared.Controller.{Controller}
 use Rattle.host.specs.declared.Told.{Told}
-use Rattle.controller.specs.declared.Engine.{Engine}
+use Rattle.phases.specs.declared.Engine.{Engine}
 use Rattle.host.specs.declared.Turn.{Turn}
 use Rattle.controller.specs.Controller.{stepOf}
 use Rattle.host.specs.Host.{toldOf}
@@ -55,8 +55,8 @@ use Rattle.controller.proofs.Controller as T
 use Rattle.controller.proofs.Controller.Laws as T′
 use Rattle.host.proofs.Told as B
 use Rattle.host.proofs.Told.Laws as B′
-use Rattle.controller.proofs.Engine as E
-use Rattle.controller.proofs.Engine.Laws as E′
+use Rattle.phases.proofs.Engine as E
+use Rattle.phases.proofs.Engine.Laws as E′
 use Rattle.host.proofs.Turn as S
 use Rattle.host.proofs.Turn.Laws as S′
 use Rattle.host.proofs.step_engine as engine

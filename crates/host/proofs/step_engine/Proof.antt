@@ -19,7 +19,7 @@ use ghost.Atoms.{Atoms, sem}
 use contract.Monad.{Fun, fact}
 use contract.Running.{givenOf, tables, tablesOf}
 use contract.Lifetimes.{AllOutlive}
-use types.Kit.{Given, ‵, raw, some, later, _⊛_, ⋆, _$_, _∵_, !, qed, by, move, keep, drop, use1, use2, split, join, pick, fsplit, fsplit3, fjoin, fjoin3, feqL, feqI, suffices, frame, await, done}
+use types.Kit.{Given, ‵, raw, some, later, _⊛_, ⋆, _$_, _∵_, !, qed, move, keep, drop, use1, use2, split, join, pick, fsplit, fsplit3, fjoin, fjoin3, feqL, feqI, suffices, frame, await, done}
 use types.Run.{look, look-raw, init, stop, hop, fld, from, load, addr, of-opd, and-then, no-more, assigns, enter, alloc1, alloc0, params1, pass1, pass0}
 use types.Part.{agg, whole, sub, look-in}
 use types.SemTy.{Body}
@@ -44,7 +44,7 @@ use denote.Triple.Walked.{says, Stays, stay-ref, stay-none, gave-slice, walkOf, 
 use denote.Exit.{yes}
 use denote.Signature.{plain}
 use Rattle.controller.specs.declared.Controller.{Controller}
-use Rattle.controller.specs.declared.Engine.{Engine}
+use Rattle.phases.specs.declared.Engine.{Engine}
 use Rattle.host.specs.declared.Turn.{Turn}
 use Rattle.controller.specs.Controller.{stepOf}
 use Rattle.host.specs.Host.{turnOf}
@@ -54,8 +54,8 @@ use Rattle.controller.proofs.Controller as T
 use Rattle.controller.proofs.Controller.Laws as T′
 use Rattle.host.proofs.Told as B
 use Rattle.host.proofs.Told.Laws as B′
-use Rattle.controller.proofs.Engine as E
-use Rattle.controller.proofs.Engine.Laws as E′
+use Rattle.phases.proofs.Engine as E
+use Rattle.phases.proofs.Engine.Laws as E′
 use Rattle.host.proofs.Turn as S
 use Rattle.host.proofs.turn_by as step
 use Rattle.host.proofs.turn_by.Symbol as step-def

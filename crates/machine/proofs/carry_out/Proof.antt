@@ -1,6 +1,6 @@
--- `machine::carry_out`: a refused write stays where it is, an accepted one goes on. Assumes nothing.
-use borrow.Author.Needs.{needs}
+-- `machine::carry_out` meets its contract: a refused write stays where it is, an accepted one goes on. Assumes nothing.
 use Rattle.machine.proofs.LeavesLaws.{carry-kept, carry-met}
+use borrow.Author.Needs.{needs}
 use Rattle.machine.proofs.carry_out.Statement.{statement}
 use Rattle.machine.proofs.carry_out.Tie as tie
 
@@ -11,7 +11,7 @@ keep-requires : tie.Need-keep-requires
 keep-requires c κs = search needs
 
 returns : tie.Need-returns
-returns c = carry-kept _ _ _ _ _ _ _ (c .before .before .answer-number .ensures) (c .before .if1 .taken) _ (c .keep .ensures)
+returns c = carry-kept _ _ _ _ _ _ (c .before .before .answer-number .ensures) (c .before .if1 .taken) _ (c .keep .ensures)
 
 unguarded-write-requires : tie.Need-unguarded-write-requires
 unguarded-write-requires c κs = search needs
@@ -23,7 +23,16 @@ same-length : tie.Need-same-length
 same-length c = search needs
 
 returns-2 : tie.Need-returns-2
-returns-2 c = carry-met _ _ _ _ _ _ _ (c .before .before .before .before .before .before .answer-number .ensures) (c .before .before .before .before .before .if1 .left) _ _ (c .before .before .before .unguarded-write .ensures) _ (c .meet .ensures)
+returns-2 c = carry-met _ _ _ _ _ _ (c .before .before .before .before .before .before .answer-number .ensures) (c .before .before .before .before .before .if1 .left) _ _ (c .before .before .before .unguarded-write .ensures) _ (c .meet .ensures)
 
 pub carry-out-spec : {M : Type 1} → statement M
-carry-out-spec = tie.close (tie.spec answer-number-requires keep-requires returns unguarded-write-requires meet-requires same-length returns-2)
+carry-out-spec =
+    tie.close
+    (tie.spec
+    answer-number-requires
+    keep-requires
+    returns
+    unguarded-write-requires
+    meet-requires
+    same-length
+    returns-2)

@@ -10,11 +10,11 @@ returns c = simp (lt-leb 5 _ (c .if1 .taken))
 number16-requires : tie.Need-number16-requires
 number16-requires c κs = search needs
 
-shared-slice-read-t7 : tie.Need-shared-slice-read-t7
-shared-slice-read-t7 c = search needs
+shared-slice-read-kind : tie.Need-shared-slice-read-kind
+shared-slice-read-kind c = search needs
 
 returns-2 : tie.Need-returns-2
 returns-2 c = simp (le-leb 5 _ (c .before .before .if1 .left), c .before .number16 .ensures)
 
 pub decode-kind-spec : {M : Type 1} → statement M
-decode-kind-spec = tie.close (tie.spec returns number16-requires shared-slice-read-t7 returns-2)
+decode-kind-spec = tie.close (tie.spec returns number16-requires shared-slice-read-kind returns-2)

@@ -1,58 +1,70 @@
 -- `registers::register_fault` goes by the class number. Assumes nothing.
-use Prim.Native.Nat.{_<_}
-use mathlib.Core.Path.{_∙_, sym}
-use native.Mathlib.Nat.{sub-zero}
+use mathlib.Core.Path.{ap, _∙_, sym}
+use Prim.Native.Nat.{ℕ, _<_}
 use native.Mathlib.Omega.{arith}
-use Rattle.registers.specs.Rules.{registerFault}
+use Rattle.layout.specs.Class.{resetClass}
+use Rattle.registers.specs.Rules.{teardownNumber, registerFault}
 use Rattle.registers.proofs.RegisterLaws.{byClass-head, byClass-low, byClass-ack, byClass-mid, byClass-teardown, byClass-reset, byClass-zero, byClass-passed, byClass-unoffered, byClass-unguarded}
 use borrow.Author.Needs.{needs}
 use Rattle.registers.proofs.register_fault.Statement.{statement}
 use Rattle.registers.proofs.register_fault.Tie as tie
 
-reset-fault-requires : tie.Need-reset-fault-requires
-reset-fault-requires c κs = search needs
+reset-number-requires : tie.Need-reset-number-requires
+reset-number-requires c κs = search needs
 
-sub-head-fault : tie.Need-sub-head-fault
-sub-head-fault c = search needs
+sub-head-number : tie.Need-sub-head-number
+sub-head-number c = search needs
 
-cast-head-fault : tie.Need-cast-head-fault
-cast-head-fault c = search needs
+cast-head-number : tie.Need-cast-head-number
+cast-head-number c = search needs
 
-head-fault-requires : tie.Need-head-fault-requires
-head-fault-requires c κs = search needs
+head-number-requires : tie.Need-head-number-requires
+head-number-requires c κs = search needs
+
+is-awaiting-requires : tie.Need-is-awaiting-requires
+is-awaiting-requires c κs = search needs
 
 ack-fault-requires : tie.Need-ack-fault-requires
 ack-fault-requires c κs = search needs
 
-cast-teardown-fault : tie.Need-cast-teardown-fault
-cast-teardown-fault c = search needs
+cast-tear-queue : tie.Need-cast-tear-queue
+cast-tear-queue c = search needs
 
-teardown-fault-requires : tie.Need-teardown-fault-requires
-teardown-fault-requires c κs = search needs
+tear-queue-requires : tie.Need-tear-queue-requires
+tear-queue-requires c κs = search needs
+
+teardown-number-requires : tie.Need-teardown-number-requires
+teardown-number-requires c κs = search needs
 
 zero-fault-requires : tie.Need-zero-fault-requires
 zero-fault-requires c κs = search needs
 
 returns : tie.Need-returns
 unfolding registerFault
-returns c = c .reset-fault .ensures ∙ sym (byClass-reset _ _ _ _ _ _ _ _ _ (c .before .match .keys1))
+returns c = c .reset-number .ensures ∙ sym (byClass-reset _ _ _ _ _ _ _ _ _ (c .before .match .keys1))
 
 returns-2 : tie.Need-returns-2
 unfolding registerFault
-returns-2 c = simp sub-zero at (c .head-fault .ensures) ∙ sym (byClass-head _ _ _ _ _ _ _ _ _ (c .before .if1 .taken))
+returns-2 c = c .head-number .ensures ∙ sym (byClass-head _ _ _ _ _ _ _ _ _ (c .before .if1 .taken))
 
 returns-3 : tie.Need-returns-3
 unfolding registerFault
-returns-3 c = c .ack-fault .ensures ∙ sym (byClass-ack _ _ _ _ _ _ _ _ _ (c .before .before .if2 .left) (c .before .if3 .taken))
+returns-3 c =
+    simp (← c .before .is-awaiting .ensures) (c .ack-fault .ensures)
+    ∙ sym (byClass-ack _ _ _ _ _ _ _ _ _ (c .before .before .before .if2 .left) (c .before .before .if3 .taken))
 
 returns-4 : tie.Need-returns-4
 unfolding registerFault
-returns-4 c = c .teardown-fault .ensures ∙ sym (byClass-teardown _ _ _ _ _ _ _ _ _ (c .before .before .if4 .left) (c .before .if5 .taken))
+returns-4 c =
+    let s = c .before .before .before .before .before .before .before .before .args in
+    c .teardown-number .ensures
+    ∙ ap (λ (q : ℕ). teardownNumber (s .t .now) q (s .v)) (c .before .tear-queue .ensures .0)
+    ∙ sym (byClass-teardown _ _ _ _ _ _ _ _ _ (c .before .before .before .if4 .left) (c .before .before .if5 .taken))
 
 returns-5 : tie.Need-returns-5
 unfolding registerFault
 returns-5 c =
-    let past : 34 < c .before .before .before .before .before .before .before .before .args .n =
+    let past : resetClass < c .before .before .before .before .before .before .before .before .args .n =
     omega (arith, c .before .before .if5 .left, c .before .before .before .before .before .before .before .match .rest .1) in
     c .zero-fault .ensures ∙ sym (byClass-zero _ _ _ _ _ _ _ _ _ past (c .before .if6 .taken))
 
@@ -80,13 +92,15 @@ pub register-fault-spec : {M : Type 1} → statement M
 register-fault-spec =
     tie.close
     (tie.spec
-    reset-fault-requires
-    sub-head-fault
-    cast-head-fault
-    head-fault-requires
+    reset-number-requires
+    sub-head-number
+    cast-head-number
+    head-number-requires
+    is-awaiting-requires
     ack-fault-requires
-    cast-teardown-fault
-    teardown-fault-requires
+    cast-tear-queue
+    tear-queue-requires
+    teardown-number-requires
     zero-fault-requires
     returns
     returns-2

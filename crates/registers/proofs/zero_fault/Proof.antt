@@ -1,4 +1,4 @@
--- `registers::zero_fault` asks for 0. Assumes nothing.
+-- `registers::zero_fault`: only 0 is taken. Assumes nothing.
 use borrow.Author.Tests.{eq-eqb, ne-eqb}
 use Rattle.registers.specs.Rules.{zeroFault}
 use Rattle.registers.proofs.zero_fault.Statement.{statement}

@@ -1,4 +1,4 @@
--- `registers::zeroing_fault` asks for 0. Assumes nothing.
+-- `registers::zeroing_fault`: only 0 marks a register. Assumes nothing.
 use borrow.Author.Tests.{eq-eqb, ne-eqb}
 use Rattle.registers.proofs.zeroing_fault.Statement.{statement}
 use Rattle.registers.proofs.zeroing_fault.Tie as tie

@@ -1,7 +1,7 @@
--- `replay::play`: each record by its own function. Assumes nothing.
+-- `replay::play` meets its contract: each record by its own function. Assumes nothing.
 use native.Mathlib.Omega.{arith}
+use Rattle.replay.proofs.PlayLaws.{ram-plays, record-plays, steps-goes}
 use borrow.Author.Needs.{needs}
-use Rattle.replay.proofs.PlayLaws.{ram-plays, record-plays, book-plays, steps-goes, end-of}
 use Rattle.replay.proofs.play.Statement.{statement}
 use Rattle.replay.proofs.play.Tie as tie
 
@@ -12,37 +12,28 @@ enum-known-r : tie.Need-enum-known-r
 enum-known-r c = search needs
 
 play-write-requires : tie.Need-play-write-requires
-play-write-requires c κs = omega (arith, c .before .before .before .before .before .before .before .before .before .before .before .pre)
+play-write-requires c κs = search needs
 
 enum-known-r-2 : tie.Need-enum-known-r-2
 enum-known-r-2 c = search needs
 
 play-kind-requires : tie.Need-play-kind-requires
-play-kind-requires c κs = omega (arith, c .before .before .before .before .before .before .before .before .before .before .before .pre)
+play-kind-requires c κs = search needs
 
 enum-known-r-3 : tie.Need-enum-known-r-3
 enum-known-r-3 c = search needs
 
 play-frame-requires : tie.Need-play-frame-requires
-play-frame-requires c κs = omega (arith, c .before .before .before .before .before .before .before .pre)
-
-with-book-requires : tie.Need-with-book-requires
-with-book-requires c κs = search needs
+play-frame-requires c κs = search needs
 
 enum-known-r-4 : tie.Need-enum-known-r-4
 enum-known-r-4 c = search needs
 
-engine-of-requires : tie.Need-engine-of-requires
-engine-of-requires c κs = search needs
-
 play-steps-requires : tie.Need-play-steps-requires
-play-steps-requires c κs = c .before .before .before .before .before .before .before .before .before .pre
-
-with-book-requires-2 : tie.Need-with-book-requires-2
-with-book-requires-2 c κs = search needs
+play-steps-requires c κs = search needs
 
 returns : tie.Need-returns
-returns c = (omega arith, record-plays _ _ _ _ _ _ _ _ _ _ (c .enum-told .given .1) _ (ram-plays _ _ _ _ _ _ _ _ _))
+returns c = (omega arith, record-plays _ _ (c .enum-told .given .1) _ _ _ _ _ _ _ _ _ _ (ram-plays _ _ _ _ _ _ _ _ _))
 
 same-length : tie.Need-same-length
 same-length c = search needs
@@ -54,7 +45,7 @@ same-length-3 : tie.Need-same-length-3
 same-length-3 c = search needs
 
 returns-2 : tie.Need-returns-2
-returns-2 c = (omega (arith, c .before .before .before .before .play-write .ensures .0), record-plays _ _ _ _ _ _ _ _ _ _ (c .before .before .before .before .before .before .before .before .before .before .before .r .given .1) _ (c .before .before .before .before .play-write .ensures .1))
+returns-2 c = (omega (arith, c .before .before .before .before .play-write .ensures .0), record-plays _ _ (c .before .before .before .before .before .before .before .before .before .before .before .before .r .given .1) _ _ _ _ _ _ _ _ _ _ (c .before .before .before .before .play-write .ensures .1))
 
 same-length-4 : tie.Need-same-length-4
 same-length-4 c = search needs
@@ -66,13 +57,13 @@ same-length-6 : tie.Need-same-length-6
 same-length-6 c = search needs
 
 returns-3 : tie.Need-returns-3
-returns-3 c = (omega (arith, c .before .before .before .before .play-kind .ensures .0), record-plays _ _ _ _ _ _ _ _ _ _ (c .before .before .before .before .before .before .before .before .before .before .before .r2 .given .1) _ (c .before .before .before .before .play-kind .ensures .1))
+returns-3 c = (omega (arith, c .before .before .before .before .play-kind .ensures .0), record-plays _ _ (c .before .before .before .before .before .before .before .before .before .before .before .before .r2 .given .1) _ _ _ _ _ _ _ _ _ _ (c .before .before .before .before .play-kind .ensures .1))
 
 same-length-7 : tie.Need-same-length-7
 same-length-7 c = search needs
 
 returns-4 : tie.Need-returns-4
-returns-4 c = (end-of (c .with-book .ensures) (omega (arith, c .before .before .before .play-frame .ensures .0)), book-plays _ _ _ _ _ _ _ _ _ _ (c .before .before .before .before .before .before .r3 .given .1) _ _ _ (c .with-book .ensures) (c .before .before .before .play-frame .ensures .1 _ _ _ _ _))
+returns-4 c = (omega (arith, c .before .before .play-frame .ensures .0), record-plays _ _ (c .before .before .before .before .before .r3 .given .1) _ _ _ _ _ _ _ _ _ _ (c .before .before .play-frame .ensures .1 _ _ _ _ _))
 
 same-length-8 : tie.Need-same-length-8
 same-length-8 c = search needs
@@ -81,7 +72,32 @@ same-length-9 : tie.Need-same-length-9
 same-length-9 c = search needs
 
 returns-5 : tie.Need-returns-5
-returns-5 c = (end-of (c .with-book2 .ensures) (c .before .before .before .before .before .play-steps .ensures .0), book-plays _ _ _ _ _ _ _ _ _ _ (c .before .before .before .before .before .before .before .before .before .before .r4 .given .1) _ _ _ (c .with-book2 .ensures) (steps-goes _ _ _ (c .before .before .before .before .before .before .before .before .engine-of .ensures) _ _ _ _ _ _ _ (c .before .before .before .before .before .play-steps .ensures .1) _ _ _ _))
+returns-5 c = (c .before .before .before .before .play-steps .ensures .0, record-plays _ _ (c .before .before .before .before .before .before .before .before .r4 .given .1) _ _ _ _ _ _ _ _ _ _ (steps-goes _ _ _ _ _ _ _ _ _ (c .before .before .before .before .play-steps .ensures .1) _ _ _ _))
 
 pub play-spec : {M : Type 1} → statement M
-play-spec = tie.close (tie.spec enum-told enum-known-r play-write-requires enum-known-r-2 play-kind-requires enum-known-r-3 play-frame-requires with-book-requires enum-known-r-4 engine-of-requires play-steps-requires with-book-requires-2 returns same-length same-length-2 same-length-3 returns-2 same-length-4 same-length-5 same-length-6 returns-3 same-length-7 returns-4 same-length-8 same-length-9 returns-5)
+play-spec =
+    tie.close
+    (tie.spec
+    enum-told
+    enum-known-r
+    play-write-requires
+    enum-known-r-2
+    play-kind-requires
+    enum-known-r-3
+    play-frame-requires
+    enum-known-r-4
+    play-steps-requires
+    returns
+    same-length
+    same-length-2
+    same-length-3
+    returns-2
+    same-length-4
+    same-length-5
+    same-length-6
+    returns-3
+    same-length-7
+    returns-4
+    same-length-8
+    same-length-9
+    returns-5)

@@ -1,4 +1,4 @@
--- `replay::play_frame`. Assumes nothing.
+-- `replay::play_frame` meets its contract: the frame, then its line. Assumes nothing.
 use borrow.Author.Needs.{needs}
 use Rattle.records.proofs.LineLaws.{length-lineOf}
 use Rattle.replay.proofs.PlayLaws.{line-end, frame-goes}

@@ -1,7 +1,7 @@
--- `replay::play_kind`. Assumes nothing.
-use borrow.Author.Needs.{needs}
+-- `replay::play_kind` meets its contract: the kind change, then its line. Assumes nothing.
 use Rattle.records.proofs.LineLaws.{length-lineOf}
 use Rattle.replay.proofs.PlayLaws.{line-end, kind-plays}
+use borrow.Author.Needs.{needs}
 use Rattle.replay.proofs.play_kind.Statement.{statement}
 use Rattle.replay.proofs.play_kind.Tie as tie
 
@@ -21,7 +21,15 @@ same-length-2 : tie.Need-same-length-2
 same-length-2 c = search needs
 
 returns : tie.Need-returns
-returns c = (line-end (c .before .before .before .before .put-changed .ensures) (length-lineOf _), kind-plays _ _ _ _ _ _ _ _ _ _ _ _ _ _ _ _ (c .before .before .before .before .before .answer-number .ensures) _ _ (c .before .before .before .before .before .before .before .before .before .apply-kind .ensures) (c .before .before .before .before .put-changed .ensures))
+returns c = (line-end (c .before .before .before .put-changed .ensures) (length-lineOf _), kind-plays _ _ _ _ _ _ _ _ _ _ _ _ _ _ _ _ _ (c .before .before .before .before .answer-number .ensures) _ _ (c .before .before .before .before .before .before .before .before .apply-kind .ensures) (c .before .before .before .put-changed .ensures))
 
 pub play-kind-spec : {M : Type 1} → statement M
-play-kind-spec = tie.close (tie.spec apply-kind-requires answer-number-requires put-changed-requires same-length same-length-2 returns)
+play-kind-spec =
+    tie.close
+    (tie.spec
+    apply-kind-requires
+    answer-number-requires
+    put-changed-requires
+    same-length
+    same-length-2
+    returns)

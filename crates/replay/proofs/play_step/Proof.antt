@@ -1,4 +1,4 @@
--- `replay::play_step`. Assumes nothing.
+-- `replay::play_step` meets its contract: the step, then the line of its burst. Assumes nothing.
 use borrow.Author.Needs.{needs}
 use Rattle.records.proofs.LineLaws.{length-lineOf}
 use Rattle.replay.proofs.PlayLaws.{line-end, step-goes}

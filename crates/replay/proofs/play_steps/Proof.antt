@@ -1,6 +1,6 @@
--- `replay::play_steps`: one step behind another. Assumes nothing.
+-- `replay::play_steps` meets its contract: one step behind another. Assumes nothing.
 use Prim.Native.Nat.{_+_, _-_, _*_, _≤_}
-use mathlib.Core.Path.{_≡_, refl, ap, _∙_}
+use mathlib.Core.Path.{_≡_, refl, _∙_}
 use native.Mathlib.Omega.{arith}
 use lib.ListN.{length}
 use borrow.Author.Needs.{needs}

@@ -1,7 +1,7 @@
--- `replay::play_write`. Assumes nothing.
-use borrow.Author.Needs.{needs}
+-- `replay::play_write` meets its contract: the write, then its line. Assumes nothing.
 use Rattle.records.proofs.LineLaws.{length-lineOf}
 use Rattle.replay.proofs.PlayLaws.{line-end, write-plays}
+use borrow.Author.Needs.{needs}
 use Rattle.replay.proofs.play_write.Statement.{statement}
 use Rattle.replay.proofs.play_write.Tie as tie
 
@@ -21,7 +21,15 @@ same-length-2 : tie.Need-same-length-2
 same-length-2 c = search needs
 
 returns : tie.Need-returns
-returns c = (line-end (c .before .before .before .before .put-wrote .ensures) (length-lineOf _), write-plays _ _ _ _ _ _ _ _ _ _ _ _ _ _ _ _ (c .before .before .before .before .before .answer-number .ensures) _ _ (c .before .before .before .before .before .before .before .before .before .apply-write .ensures) (c .before .before .before .before .put-wrote .ensures))
+returns c = (line-end (c .before .before .before .put-wrote .ensures) (length-lineOf _), write-plays _ _ _ _ _ _ _ _ _ _ _ _ _ _ _ _ _ (c .before .before .before .before .answer-number .ensures) _ _ (c .before .before .before .before .before .before .before .before .apply-write .ensures) (c .before .before .before .put-wrote .ensures))
 
 pub play-write-spec : {M : Type 1} → statement M
-play-write-spec = tie.close (tie.spec apply-write-requires answer-number-requires put-wrote-requires same-length same-length-2 returns)
+play-write-spec =
+    tie.close
+    (tie.spec
+    apply-write-requires
+    answer-number-requires
+    put-wrote-requires
+    same-length
+    same-length-2
+    returns)

@@ -1,11 +1,11 @@
--- `rig::gresomund_unguarded`: the controller's own promise, in words. Assumes nothing.
-use Rattle.rig.proofs.LentLaws.{written-of}
+-- `rig::gresomund_unguarded`: the controller's own promise, in parts. Assumes nothing.
+use Rattle.rig.proofs.PartLaws.{written-of}
 use borrow.Author.Needs.{needs}
 use Rattle.rig.proofs.gresomund_unguarded.Statement.{statement}
 use Rattle.rig.proofs.gresomund_unguarded.Tie as tie
 
-read-controller-requires : tie.Need-read-controller-requires
-read-controller-requires c κs = search needs
+read-record-requires : tie.Need-read-record-requires
+read-record-requires c κs = search needs
 
 unguarded-write-requires : tie.Need-unguarded-write-requires
 unguarded-write-requires c κs = search needs
@@ -17,13 +17,16 @@ same-length : tie.Need-same-length
 same-length c = search needs
 
 returns : tie.Need-returns
-returns c = written-of _ _ _ _ _ _ _ _ _ _ _ _ (c .before .before .before .before .before .before .before .before .read-controller .ensures) (c .before .before .before .before .before .before .unguarded-write .ensures) (c .save-stepped .ensures .0) (c .save-stepped .ensures .1) (c .save-stepped .ensures .2) (c .save-stepped .ensures .3)
+returns c =
+    let w = c .before .before .before .before .before .before .before .before .before in
+    let s = c .save-stepped .ensures in
+    written-of _ _ _ _ _ _ _ _ _ _ (w .before .before .read-record .ensures) (w .unguarded-write .ensures) (s .0) (s .1) (s .2)
 
 pub gresomund-unguarded-spec : {M : Type 1} → statement M
 gresomund-unguarded-spec =
     tie.close
     (tie.spec
-    read-controller-requires
+    read-record-requires
     unguarded-write-requires
     save-stepped-requires
     same-length

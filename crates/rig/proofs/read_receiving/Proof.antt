@@ -1,61 +1,84 @@
 -- `rig::read_receiving`: tag by tag. Assumes nothing.
-use Rattle.rig.proofs.TagLaws.{receiving-idle, receiving-wait, receiving-fetch, receiving-moving, receiving-ended, receiving-last, receiving-first, receiving-done}
+use mathlib.Core.Path.{refl}
 use borrow.Author.Needs.{needs}
+use Rattle.rig.specs.Record.{receivingBy}
+use Rattle.rig.proofs.TagLaws.{receiving-tag, receiving-rest}
 use Rattle.rig.proofs.read_receiving.Statement.{statement}
 use Rattle.rig.proofs.read_receiving.Tie as tie
 
-read-frame-requires : tie.Need-read-frame-requires
-read-frame-requires c κs = search needs
+array-read-tag : tie.Need-array-read-tag
+array-read-tag c = search needs
 
-read-storing-requires : tie.Need-read-storing-requires
-read-storing-requires c κs = search needs
+array-read-first : tie.Need-array-read-first
+array-read-first c = search needs
 
-read-filled-requires : tie.Need-read-filled-requires
-read-filled-requires c κs = search needs
+array-read-stored : tie.Need-array-read-stored
+array-read-stored c = search needs
 
-read-stored-requires : tie.Need-read-stored-requires
-read-stored-requires c κs = search needs
+array-read-left : tie.Need-array-read-left
+array-read-left c = search needs
 
-read-stored-requires-2 : tie.Need-read-stored-requires-2
-read-stored-requires-2 c κs = search needs
+array-read-at : tie.Need-array-read-at
+array-read-at c = search needs
 
-element-copy-out-t11 : tie.Need-element-copy-out-t11
-element-copy-out-t11 c = search needs
+array-read-room : tie.Need-array-read-room
+array-read-room c = search needs
+
+array-read-here : tie.Need-array-read-here
+array-read-here c = search needs
+
+array-read-next : tie.Need-array-read-next
+array-read-next c = search needs
+
+array-read-overrun : tie.Need-array-read-overrun
+array-read-overrun c = search needs
 
 returns : tie.Need-returns
-returns c = receiving-idle _ _ (c .match .keys1)
+unfolding receivingBy
+returns c = receiving-tag (c .before .args .t1) (c .match .keys1) refl
 
 returns-2 : tie.Need-returns-2
-returns-2 c = receiving-wait _ _ (c .match .keys2)
+unfolding receivingBy
+returns-2 c = receiving-tag (c .before .args .t1) (c .match .keys2) refl
 
 returns-3 : tie.Need-returns-3
-returns-3 c = receiving-fetch _ _ _ (c .before .match .keys3) (c .read-frame .ensures)
+unfolding receivingBy
+returns-3 c = receiving-tag (c .before .args .t1) (c .match .keys3) refl
 
 returns-4 : tie.Need-returns-4
-returns-4 c = receiving-moving _ _ _ (c .before .match .keys4) (c .read-storing .ensures)
+unfolding receivingBy
+returns-4 c = receiving-tag (c .before .args .t1) (c .match .keys4) refl
 
 returns-5 : tie.Need-returns-5
-returns-5 c = receiving-ended _ _ _ (c .before .match .keys5) (c .read-filled .ensures)
+unfolding receivingBy
+returns-5 c = receiving-tag (c .before .args .t1) (c .match .keys5) refl
 
 returns-6 : tie.Need-returns-6
-returns-6 c = receiving-last _ _ _ (c .before .match .keys6) (c .read-stored .ensures)
+unfolding receivingBy
+returns-6 c = receiving-tag (c .before .args .t1) (c .match .keys6) refl
 
 returns-7 : tie.Need-returns-7
-returns-7 c = receiving-first _ _ _ (c .before .match .keys7) (c .read-stored2 .ensures)
+unfolding receivingBy
+returns-7 c = receiving-tag (c .before .args .t1) (c .match .keys7) refl
 
 returns-8 : tie.Need-returns-8
-returns-8 c = receiving-done _ _ (c .before .match .rest .0 .0 .0 .0 .0 .0 .1) (c .before .match .rest .0 .0 .0 .0 .0 .1) (c .before .match .rest .0 .0 .0 .0 .1) (c .before .match .rest .0 .0 .0 .1) (c .before .match .rest .0 .0 .1) (c .before .match .rest .0 .1) (c .before .match .rest .1)
+returns-8 c =
+    let r = c .match .rest in
+    receiving-rest _ _ (r .0 .0 .0 .0 .0 .0 .1) (r .0 .0 .0 .0 .0 .1) (r .0 .0 .0 .0 .1) (r .0 .0 .0 .1) (r .0 .0 .1) (r .0 .1) (r .1)
 
 pub read-receiving-spec : {M : Type 1} → statement M
 read-receiving-spec =
     tie.close
     (tie.spec
-    read-frame-requires
-    read-storing-requires
-    read-filled-requires
-    read-stored-requires
-    read-stored-requires-2
-    element-copy-out-t11
+    array-read-tag
+    array-read-first
+    array-read-stored
+    array-read-left
+    array-read-at
+    array-read-room
+    array-read-here
+    array-read-next
+    array-read-overrun
     returns
     returns-2
     returns-3

@@ -2,6 +2,7 @@
 use mathlib.Core.Path.{_≡_}
 use native.Mathlib.Omega.{arith}
 use lib.ListN.{length}
+use Rattle.layout.specs.Layout.{queues}
 use Rattle.controller.proofs.StepLaws.{getD-any}
 use borrow.Author.Needs.{needs}
 use Rattle.controller.proofs.record.stage_of.Statement.{statement}
@@ -12,8 +13,8 @@ array-read-result c = search needs
 
 returns : tie.Need-returns
 returns c =
-    let two : length (c .before .args .c .stages) ≡ 2 = search needs in
-    getD-any (c .before .args .c .stages) (c .before .args .q) 0 1 (omega (arith, two, c .before .pre))
+    let all : length (c .before .args .c .stages) ≡ queues = search needs in
+    getD-any (c .before .args .c .stages) (c .before .args .q) 0 1 (omega (arith, all, c .before .pre))
 
 pub stage-of-spec : {M : Type 1} → statement M
 stage-of-spec = tie.close (tie.spec array-read-result returns)

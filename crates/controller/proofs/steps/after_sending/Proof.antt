@@ -1,18 +1,22 @@
 -- `controller::steps::after_sending` meets its contract: phase and total go in, then the registers. Assumes nothing.
-use Prim.Native.Nat.{ℕ}
-use mathlib.Core.Path.{_∙_, ap}
-use Rattle.registers.specs.Pending.{setHdp, setCp}
+use mathlib.Core.Path.{ap}
 use Rattle.controller.specs.declared.Controller.{Controller}
-use Rattle.controller.specs.Controller.{Moved, setRegs, setTx}
+use Rattle.controller.specs.Controller.{Moved}
 use borrow.Author.Needs.{needs}
 use Rattle.controller.proofs.steps.after_sending.Statement.{statement}
 use Rattle.controller.proofs.steps.after_sending.Tie as tie
 
+set-tx-requires : tie.Need-set-tx-requires
+set-tx-requires c κs = search needs
+
 add-octets-requires : tie.Need-add-octets-requires
 add-octets-requires c κs = search needs
 
-set-tx-requires : tie.Need-set-tx-requires
-set-tx-requires c κs = search needs
+set-totals-requires : tie.Need-set-totals-requires
+set-totals-requires c κs = search needs
+
+queue-of-requires : tie.Need-queue-of-requires
+queue-of-requires c κs = search needs
 
 set-registers-requires : tie.Need-set-registers-requires
 set-registers-requires c κs = search needs
@@ -20,12 +24,16 @@ set-registers-requires c κs = search needs
 returns : tie.Need-returns
 returns c =
     λ x m.
-    let a = c .before .before .before .args in
-    let t = a .t in
-    let tx = c .before .set-tx .ensures ∙ ap (λ (n : ℕ). setTx (t .state) n (a .c)) (c .before .before .add-octets .ensures) in
-    let all = c .set-registers .ensures ∙ ap (λ (d : Controller). setRegs (setHdp 0 (t .hdp) (setCp 0 (t .cp) (d .regs))) d) tx in
-    ap {B = Moved} (λ (d : Controller). record { ctl = d; mem = x; burst = t .burst; number = 0 }) all
+    ap {B = Moved} (λ (d : Controller). record { ctl = d; mem = x; burst = c .before .before .before .before .before .args .t .burst; number = 0 })
+    (simp (c .before .queue-of .ensures .0, c .before .before .set-totals .ensures, c .before .before .before .add-octets .ensures, c .before .before .before .before .set-tx .ensures) at (c .set-registers .ensures))
 
 pub after-sending-spec : {M : Type 1} → statement M
 after-sending-spec =
-    tie.close (tie.spec add-octets-requires set-tx-requires set-registers-requires returns)
+    tie.close
+    (tie.spec
+    set-tx-requires
+    add-octets-requires
+    set-totals-requires
+    queue-of-requires
+    set-registers-requires
+    returns)

@@ -4,7 +4,7 @@ use mathlib.Core.Path.{_∙_, sym, ap}
 use mathlib.Core.List.{List}
 use borrow.Author.Tests.{eq-eqb, ne-eqb}
 use Rattle.layout.proofs.ChoiceLaws.{yes-of, no-of}
-use Rattle.descriptor.specs.Marks.{tdMark, marked}
+use Rattle.marks.specs.Marks.{tdMark, marked}
 use Rattle.controller.specs.declared.Controller.{Controller}
 use Rattle.controller.specs.Controller.{answer, setStage, tearMark}
 use borrow.Author.Needs.{needs}

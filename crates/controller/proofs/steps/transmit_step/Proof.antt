@@ -1,15 +1,29 @@
--- `controller::steps::transmit_step` meets its contract: the engine's step picks the case, and unfit it has written nothing.
--- Assumes nothing.
+-- `controller::steps::transmit_step` meets its contract: the engine's step picks the case, and unfit it has written nothing. Assumes nothing.
 use Prim.Native.Nat.{ℕ}
 use mathlib.Core.Path.{_∙_, sym, ap}
 use mathlib.Core.List.{List}
+use Rattle.registers.specs.Table.{hdpOf, cpOf}
 use Rattle.phases.specs.declared.Sends.{Sends}
 use Rattle.phases.proofs.StepLaws.{send-unfit}
-use Rattle.controller.specs.Controller.{sendMoved, undefine, transmitStep}
-use Rattle.controller.proofs.StepLaws.{send-at}
+use Rattle.controller.specs.Controller.{held, sendMoved, undefine, transmitStep}
+use Rattle.controller.proofs.StepLaws.{on-channel, off-channel, send-at}
 use borrow.Author.Needs.{needs}
 use Rattle.controller.proofs.steps.transmit_step.Statement.{statement}
 use Rattle.controller.proofs.steps.transmit_step.Tie as tie
+
+give-requires : tie.Need-give-requires
+give-requires c κs = search needs
+
+returns : tie.Need-returns
+returns c =
+    let a = c .before .before .before .args in
+    c .give .ensures _ ∙ sym (off-channel (a .c) (a .m .now) _ (c .before .if1 .taken))
+
+queue-of-requires : tie.Need-queue-of-requires
+queue-of-requires c κs = search needs
+
+tx-of-requires : tie.Need-tx-of-requires
+tx-of-requires c κs = search needs
 
 hdp-of-requires : tie.Need-hdp-of-requires
 hdp-of-requires c κs = search needs
@@ -38,31 +52,41 @@ give-undefined-requires c κs = search needs
 same-length : tie.Need-same-length
 same-length c = search needs
 
-returns : tie.Need-returns
+returns-2 : tie.Need-returns-2
 unfolding transmitStep
-returns c =
-    let c₀ = c .before .before .before .before .before .before .before .before .before .before .before .before .args .c in
-    let m = c .before .before .before .before .before .before .before .before .before .before .before .before .args .m .now in
-    let went = sym (c .before .before .before .before .before .before .step-transmit .ensures ∙ send-at c₀ m (c .before .before .before .before .before .before .before .is-held .ensures) (c .before .before .before .before .before .before .before .before .before .hdp-of .ensures) (c .before .before .before .before .before .before .before .before .cp-of .ensures)) in
-    c .after-sending .ensures _ m ∙ sym (ap (λ (x : Sends × List ℕ). sendMoved x c₀ m) (went ∙ ap (λ (s : Sends). (s, c .before .before .before .before .before .before .step-transmit .last .0)) (c .before .before .s .given .1)))
+returns-2 c =
+    let a = c .before .before .before .before .before .before .before .before .before .before .before .before .before .before .before .args in
+    let k = a .c in
+    let m = a .m .now in
+    let q = c .before .before .before .before .before .before .before .before .before .before .before .before .queue-of .ensures .0 in
+    let x = c .before .before .before .before .before .before .step-transmit .last .0 in
+    let at = send-at m (c .before .before .before .before .before .before .before .is-held .ensures ∙ ap (λ (n : ℕ). held k n) q) (c .before .before .before .before .before .before .before .before .before .before .tx-of .ensures) (c .before .before .before .before .before .before .before .before .before .hdp-of .ensures ∙ ap (λ (n : ℕ). hdpOf (k .state) n) q) (c .before .before .before .before .before .before .before .before .cp-of .ensures ∙ ap (λ (n : ℕ). cpOf (k .state) n) q) in
+    let went = sym (c .before .before .before .before .before .before .step-transmit .ensures ∙ at) ∙ ap (λ (s : Sends). (s, x)) (c .before .before .s .given .1) in
+    c .after-sending .ensures x m ∙ sym (on-channel k m (transmitStep (a .ch) k m) (c .before .before .before .before .before .before .before .before .before .before .before .before .before .if1 .left) ∙ ap (λ (y : Sends × List ℕ). sendMoved (a .ch) y k m) went)
 
 same-length-2 : tie.Need-same-length-2
 same-length-2 c = search needs
 
-returns-2 : tie.Need-returns-2
+returns-3 : tie.Need-returns-3
 unfolding transmitStep
-returns-2 c =
-    let c₀ = c .before .before .before .before .before .before .before .before .before .before .before .args .c in
-    let m = c .before .before .before .before .before .before .before .before .before .before .before .args .m .now in
+returns-3 c =
+    let a = c .before .before .before .before .before .before .before .before .before .before .before .before .before .before .args in
+    let k = a .c in
+    let m = a .m .now in
+    let q = c .before .before .before .before .before .before .before .before .before .before .before .queue-of .ensures .0 in
     let x = c .before .before .before .before .before .step-transmit .last .0 in
-    let went = sym (c .before .before .before .before .before .step-transmit .ensures ∙ send-at c₀ m (c .before .before .before .before .before .before .is-held .ensures) (c .before .before .before .before .before .before .before .before .hdp-of .ensures) (c .before .before .before .before .before .before .before .cp-of .ensures)) in
-    let unfit = went ∙ ap (λ (s : Sends). (s, x)) (c .before .enum-told .given .1) in
-    c .give-undefined .ensures x ∙ ap (λ (y : List ℕ). undefine c₀ y) (send-unfit _ m x (c₀ .tx) _ _ unfit) ∙ sym (ap (λ (x : Sends × List ℕ). sendMoved x c₀ m) unfit)
+    let at = send-at m (c .before .before .before .before .before .before .is-held .ensures ∙ ap (λ (n : ℕ). held k n) q) (c .before .before .before .before .before .before .before .before .before .tx-of .ensures) (c .before .before .before .before .before .before .before .before .hdp-of .ensures ∙ ap (λ (n : ℕ). hdpOf (k .state) n) q) (c .before .before .before .before .before .before .before .cp-of .ensures ∙ ap (λ (n : ℕ). cpOf (k .state) n) q) in
+    let unfit = sym (c .before .before .before .before .before .step-transmit .ensures ∙ at) ∙ ap (λ (s : Sends). (s, x)) (c .before .enum-told .given .1) in
+    c .give-undefined .ensures x ∙ ap (λ (y : List ℕ). undefine k y) (send-unfit _ m x _ _ _ unfit) ∙ sym (on-channel k m (transmitStep (a .ch) k m) (c .before .before .before .before .before .before .before .before .before .before .before .before .if1 .left) ∙ ap (λ (y : Sends × List ℕ). sendMoved (a .ch) y k m) unfit)
 
 pub transmit-step-spec : {M : Type 1} → statement M
 transmit-step-spec =
     tie.close
     (tie.spec
+    give-requires
+    returns
+    queue-of-requires
+    tx-of-requires
     hdp-of-requires
     cp-of-requires
     is-held-requires
@@ -72,6 +96,6 @@ transmit-step-spec =
     enum-told
     give-undefined-requires
     same-length
-    returns
+    returns-2
     same-length-2
-    returns-2)
+    returns-3)

@@ -1,8 +1,7 @@
 -- `controller::writes::register_write` meets its contract: the fault's number picks the case. Assumes nothing.
-use mathlib.Core.Path.{_∙_, sym, ap}
+use mathlib.Core.Path.{sym}
 use borrow.Author.Tests.{ne-eqb}
-use Rattle.controller.specs.declared.Controller.{Controller}
-use Rattle.controller.specs.Controller.{answer, setRegs, setFlags, registerWrite}
+use Rattle.controller.specs.Controller.{registerWrite}
 use borrow.Author.Needs.{needs}
 use Rattle.controller.proofs.writes.register_write.Statement.{statement}
 use Rattle.controller.proofs.writes.register_write.Tie as tie
@@ -24,8 +23,8 @@ returns-2 : tie.Need-returns-2
 unfolding registerWrite
 returns-2 c = λ m. simp (sym (c .before .before .before .register-fault .ensures), ne-eqb _ _ (c .before .before .if1 .left), ne-eqb _ _ (c .before .if2 .taken)) (c .give-undefined .ensures m)
 
-register-written-requires : tie.Need-register-written-requires
-register-written-requires c κs = search needs
+write-register-requires : tie.Need-write-register-requires
+write-register-requires c κs = search needs
 
 begin-engine-requires : tie.Need-begin-engine-requires
 begin-engine-requires c κs = search needs
@@ -35,10 +34,7 @@ give-requires-2 c κs = search needs
 
 returns-3 : tie.Need-returns-3
 unfolding registerWrite
-returns-3 c =
-    λ m.
-    let begun = ap (λ (d : Controller). answer 0 (setRegs (c .before .before .before .before .register-written .result .regs) (setFlags (c .before .before .before .before .register-written .result .flags) d)) m) (c .before .begin-engine .ensures) in
-    simp (sym (c .before .before .before .before .before .before .before .register-fault .ensures), c .before .before .before .before .before .if2 .left, sym (c .before .before .before .before .register-written .ensures)) (c .give2 .ensures m ∙ begun)
+returns-3 c = λ m. simp (sym (c .before .before .before .before .before .before .register-fault .ensures), c .before .before .before .before .if2 .left, sym (c .before .before .write-register .ensures), sym (c .before .begin-engine .ensures)) (c .give2 .ensures m)
 
 pub register-write-spec : {M : Type 1} → statement M
 register-write-spec =
@@ -49,7 +45,7 @@ register-write-spec =
     returns
     give-undefined-requires
     returns-2
-    register-written-requires
+    write-register-requires
     begin-engine-requires
     give-requires-2
     returns-3)

@@ -1,20 +1,38 @@
--- `controller::writes::set_begun` meets its contract: the queue picks the engine. Assumes nothing.
-use borrow.Author.Tests.{eq-eqb, ne-eqb}
+-- `controller::writes::set_begun` meets its contract: the queue's side picks the engine. Assumes nothing.
+use mathlib.Core.Path.{_∙_, sym}
 use borrow.Author.Needs.{needs}
 use Rattle.controller.proofs.writes.set_begun.Statement.{statement}
 use Rattle.controller.proofs.writes.set_begun.Tie as tie
 
+side-of-requires : tie.Need-side-of-requires
+side-of-requires c κs = search needs
+
+enum-told : tie.Need-enum-told
+enum-told c = search needs
+
 set-tx-requires : tie.Need-set-tx-requires
 set-tx-requires c κs = search needs
 
-returns : tie.Need-returns
-returns c = simp (eq-eqb _ _ (c .before .if1 .taken)) (c .set-tx .ensures)
+enum-told-2 : tie.Need-enum-told-2
+enum-told-2 c = search needs
 
 set-rx-requires : tie.Need-set-rx-requires
 set-rx-requires c κs = search needs
 
+returns : tie.Need-returns
+returns c = simp (sym (c .before .before .before .side-of .ensures) ∙ c .before .enum-told .given .1) (c .set-tx .ensures)
+
 returns-2 : tie.Need-returns-2
-returns-2 c = simp (ne-eqb _ _ (c .before .if1 .left)) (c .set-rx .ensures)
+returns-2 c = simp (sym (c .before .before .before .side-of .ensures) ∙ c .before .enum-told2 .given .1) (c .set-rx .ensures)
 
 pub set-begun-spec : {M : Type 1} → statement M
-set-begun-spec = tie.close (tie.spec set-tx-requires returns set-rx-requires returns-2)
+set-begun-spec =
+    tie.close
+    (tie.spec
+    side-of-requires
+    enum-told
+    set-tx-requires
+    enum-told-2
+    set-rx-requires
+    returns
+    returns-2)
