@@ -41,8 +41,8 @@
  * were since changed by nothing but these functions, and words in use were changed by nothing but the device. Called on anything else
  * they promise nothing, not even to stay within the arrays.
  *
- * The object needs memset and memmove, nothing else. Its deepest stack does not grow with the chain: below 3 KiB in the board's object, 3,248
- * bytes in the x86-64 archive (docs/PERFORMANCE.md, measured by tests/c). */
+ * The object needs memset, memcpy and memmove, nothing else. Its deepest stack does not grow with the chain, and stays below 3 KiB, in the
+ * board's object and in the x86-64 archive (docs/PERFORMANCE.md has the figures, tests/c measures them). */
 #ifndef GRESOMUND_H
 #define GRESOMUND_H
 
@@ -61,13 +61,13 @@ extern "C" {
 /* What CP reads once a teardown has finished, until it is acknowledged. The teardowns that are still pending are `tearing`, below. */
 #define GRESOMUND_TEARDOWN_DONE 0xFFFFFFFCu
 
-/* The guard's own table, in this order: twelve words without padding. */
+/* The guard's own table, in this order: twelve words without padding. `marks` and `tearing` are masks. */
 struct gresomund_state {
   uint32_t heads[GRESOMUND_QUEUES]; /* the book: address of each queue's first descriptor, 0 for an empty queue */
   uint32_t hdp[GRESOMUND_QUEUES];   /* the device, read before each call: TX0_HDP, RX0_HDP */
   uint32_t cp[GRESOMUND_QUEUES];    /* the device, read before each call: TX0_CP, RX0_CP */
-  uint32_t marks;                   /* the book, a mask: which registers were zeroed since the last reset; bit q is HDP of queue q, bit GRESOMUND_QUEUES + q its CP */
-  uint32_t tearing;                 /* the book, a mask: bit q is set while a teardown of queue q is pending */
+  uint32_t marks;                   /* the book, registers zeroed since the last reset: bit q HDP of queue q, bit GRESOMUND_QUEUES + q its CP */
+  uint32_t tearing;                 /* the book, pending teardowns: bit q that of queue q */
   uint32_t reset;                   /* the book: 1 while a reset is pending, else 0 */
   uint32_t bit;                     /* the device, read before each call: CPDMA_SOFT_RESET, of which bit 0 is read and no other */
   uint32_t spare[2];                /* never read, never changed */

@@ -1,5 +1,6 @@
 -- The controller record and every way it changes. Document 01, "The controller's steps".
 --     txOf, rxOf c ch              the phases of a channel
+--     stageOf c q                  which teardown step of a queue comes next
 --     Moved                        the record and descriptor memory afterwards, the burst made, the answer
 --     outcome r m                  the same, of what a step handed back and the memory that it left
 --     answer, undefine             nothing but an answer; undefined now and later (22)

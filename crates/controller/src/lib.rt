@@ -1,6 +1,7 @@
 // The controller: its record, and each way in which it changes, one numbered step of document 01 at a time.
 // Promises: a step, a frame and an unguarded write each leave exactly the record, the descriptor memory, the burst and the answer
 // that 01, "The controller's steps", gives; a record unfit for its step is answered 22 and keeps its memory.
+// What an engine does in each of its phases is the crate `phases`; here are the channels, the queues by number, teardown and reset.
 
 mod record; // record.rt: named changes of the record
 mod steps; // steps.rt: the steps of the whole record
