@@ -6,8 +6,9 @@
 #include <stdio.h>
 #include <ucontext.h>
 
-/* 3 KiB, on both machines: the trap handler runs on a stack of 4 KiB. */
-#define LIMIT 3072
+/* On both machines: the trap handler runs on a stack of 4 KiB. */
+#define LIMIT 2816
+#define SET 2048 /* a call that judges a chain has a set of the words met: less than that, and nothing was measured */
 #define STACK 65536
 #define PAINT 0xA5
 
@@ -116,7 +117,7 @@ int main(void) {
       d[i] = c == FRESH ? depth(c, 0, 0) : c <= WRITE_SOUND ? deepest_write(c, lengths[i]) : deepest_change(c, lengths[i]);
     }
     printf("%-32s %6u %6u %6u %6u\n", names[c], d[0], d[1], d[2], d[3]);
-    int good = d[3] < LIMIT && d[0] <= d[1] && d[1] == d[2] && d[2] == d[3] && (c == FRESH || d[0] > 0);
+    int good = d[3] < LIMIT && d[0] <= d[1] && d[1] == d[2] && d[2] == d[3] && (c > WRITE_SOUND || c == FRESH || d[0] > SET);
     if (good) passed++; else failed++, printf("FAILED %s: not constant, or %d bytes and more\n", names[c], LIMIT);
   }
   if (answers == 0) passed++; else failed++, printf("FAILED %u scenes have another answer than they are made for\n", answers);
