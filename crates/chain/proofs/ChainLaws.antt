@@ -6,7 +6,6 @@
 --     chain-eq                      the recursion equation: one descriptor, and then the chain from where it goes
 --     chain-12, chain-13, chain-fault, chain-end, chain-go   its cases
 --     descFault-16                  where the fault is 16, the length is in order
---     Measured w side p             p is good and the length of the descriptor there is in order
 --     chain-place                   the place of a fault is a word, and it is measured where the fault is 16
 use Prim.Native.Nat.{ℕ, zero, suc, _+_, _≤_, _<_, _^_}
 use mathlib.Core.Path.{_≡_, refl, ap, _∙_, sym}
@@ -29,7 +28,7 @@ use Rattle.descriptor.proofs.RuleLaws.{sideAt-behind}
 use Rattle.descriptor.specs.declared.Place.{Place}
 use Rattle.descriptor.specs.declared.Place.the-variants.{Start, Middle, Buffer}
 use Rattle.chain.specs.Chain.{descFault, JSt, JOut, pastDesc, judgeStep, chainOf}
-use Rattle.chain.specs.Hands.{faultAt}
+use Rattle.chain.specs.Hands.{faultAt, Measured}
 
 -- ---- which numbers a descriptor's rules give
 
@@ -79,11 +78,6 @@ descFault-16 kinds w pl d e =
     past-lower 16 size _ (omega (arith, lengthFault-le (sideAt pl) (w (d + 1)) (w (d + 2)) (w (d + 3)))) (flags .1) .0
 
 -- ---- one descriptor
-
--- the descriptor that pointer p names has its length in order
-abbrev pub Measured : (ℕ → ℕ) → Side → ℕ → Type 0
-Measured w side p =
-    (goodPtr p ≡ true) × (lengthFault side (w (wordOf p + 1)) (w (wordOf p + 2)) (w (wordOf p + 3)) ≡ 0)
 
 module _ (kinds : List ℕ) (w : ℕ → ℕ) (pl : Place) (met : List ℕ) (p : ℕ) where
   -- 12, 13 and the rest are one number

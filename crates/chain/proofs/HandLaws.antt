@@ -7,18 +7,21 @@
 --     transmit-less, receive-less   and that is over fewer words
 --     follow-told                   the place in such a number is a word; where the number is 16, the descriptor there has its length in order
 --     measured-words, bufferRoom-words   the descriptor there, by its four words
---     verdict-good, verdict-plain, verdict-barred   the answer, by the number
+--     said-good, said-plain, said-barred   the answer, by the number
+--     verdict-told                  the answer from the rules' number
+--     ends-good, single-16, verdict-single   the answer from the one descriptor of a chain
 use Prim.Native.Nat.{ℕ, _+_, _*_, _/_, _%_, _<_, _^_}
 use mathlib.Core.Path.{_≡_, refl, ap, _∙_, sym}
 use mathlib.Core.Bool.{Bool, true, false}
 use mathlib.Core.Logic.{_≢_}
-use mathlib.Core.List.{List}
+use mathlib.Core.List.{List, []}
 use native.Mathlib.Omega.{arith}
 use lib.Dec.{eqb}
 use borrow.Author.Tests.{eq-eqb, ne-eqb}
 use Rattle.layout.specs.Choice.{pick, orElse}
+use Rattle.layout.proofs.ChoiceLaws.{both-left, both-right}
 use Rattle.layout.specs.Run.{Next, go, stop, after}
-use Rattle.layout.specs.Layout.{wordOf}
+use Rattle.layout.specs.Layout.{goodPtr, wordOf}
 use Rattle.layout.specs.declared.Side.{Side}
 use Rattle.layout.specs.declared.Side.the-variants.{Transmit, Receive}
 use Rattle.words.specs.WordSet.{addFour, freeCount}
@@ -35,10 +38,11 @@ use Rattle.chain.specs.declared.TransmitHand.{TransmitHand}
 use Rattle.chain.specs.declared.TransmitHand.the-variants as transmit
 use Rattle.chain.specs.declared.ReceiveHand.{ReceiveHand}
 use Rattle.chain.specs.declared.ReceiveHand.the-variants as receive
+use Rattle.chain.specs.declared.Verdict.{Verdict}
 use Rattle.chain.specs.declared.Verdict.the-variants.{Good, Bad}
-use Rattle.chain.specs.Chain.{blockFault, descFault, JSt, JOut, pastDesc, judgeStep, chainOf, placeOf, bufferRoom, verdictOf}
-use Rattle.chain.specs.Hands.{packed, unpacked, faultAt, transmitPast, transmitStep, receiveStep}
-use Rattle.chain.proofs.ChainLaws.{faultAt-step, judgeStep-falls, chain-eq, Measured, chain-place}
+use Rattle.chain.specs.Chain.{blockFault, descFault, JSt, JOut, pastDesc, judgeStep, chainOf, placeOf, bufferRoom, said, verdictOf}
+use Rattle.chain.specs.Hands.{packed, unpacked, faultAt, Measured, endsAt, transmitPast, transmitStep, receiveStep}
+use Rattle.chain.proofs.ChainLaws.{faultAt-step, faultAt-16, judgeStep-falls, chain-eq, chain-place}
 
 -- ---- a descriptor by its four words
 
@@ -144,19 +148,54 @@ module _ (kinds : List ℕ) (w : ℕ → ℕ) (side : Side) (met : List ℕ) (p 
   pub follow-told : ((k : ℕ) → w k < 2 ^ 32) → p < 2 ^ 32 → (v / 256 < 2 ^ 32) × (v % 256 ≡ 16 → Measured w side (v / 256))
   follow-told small h = rw (← is) at (chain-place kinds w small side (placeOf side) met p (placeOf-side side) h)
 
-  pub verdict-good : v % 256 ≡ 0 → (Good, l) ≡ verdictOf side kinds w met p
+  pub verdict-told : (r : Verdict) → r ≡ said kinds w side (v % 256, v / 256, []) → (r, l) ≡ verdictOf side kinds w met p
   unfolding verdictOf
-  verdict-good z = rw (← is, eq-eqb (v % 256) 0 z) refl
+  verdict-told r e = rw (← is, e) refl
 
-  pub verdict-plain : v % 256 ≢ 0 → v % 256 ≢ 16
-      → (Bad (record { number = v % 256; place = v / 256; room = Free }), l) ≡ verdictOf side kinds w met p
-  unfolding verdictOf
-  verdict-plain z n = rw (← is, ne-eqb (v % 256) 0 z, ne-eqb (v % 256) 16 n) refl
+-- the answer by the number n and its place p
+module _ (kinds : List ℕ) (w : ℕ → ℕ) (side : Side) (n p : ℕ) where
+  pub said-good : n ≡ 0 → Good ≡ said kinds w side (n, p, [])
+  said-good z = rw (eq-eqb n 0 z) refl
 
-  pub verdict-barred : (room : Room) → v % 256 ≡ 16 → room ≡ bufferRoom kinds w side (wordOf (v / 256))
-      → (Bad (record { number = v % 256; place = v / 256; room = room }), l) ≡ verdictOf side kinds w met p
+  pub said-plain : n ≢ 0 → n ≢ 16 → Bad (record { number = n; place = p; room = Free }) ≡ said kinds w side (n, p, [])
+  said-plain z b = rw (ne-eqb n 0 z, ne-eqb n 16 b) refl
+
+  pub said-barred : (room : Room) → n ≡ 16 → room ≡ bufferRoom kinds w side (wordOf p) → Bad (record { number = n; place = p; room = room }) ≡ said kinds w side (n, p, [])
+  said-barred room b e = rw (← e, b) refl
+
+-- a chain of one descriptor: its fault is the chain's
+pub ends-good : (w : ℕ → ℕ) (p : ℕ) → endsAt w p ≡ true → goodPtr p ≡ true
+unfolding endsAt
+ends-good w p e = both-left (goodPtr p) (eqb (w (wordOf p)) 0) e
+
+module _ (kinds : List ℕ) (w : ℕ → ℕ) (side : Side) (met : List ℕ) (p n : ℕ) (pl : Place) (at : pl ≡ placeOf side) (is : n ≡ faultAt kinds w pl met p) where
+  fault-is : n ≡ faultAt kinds w (placeOf side) met p
+  fault-is = rw (← at) is
+
+  pub single-16 : n ≡ 16 → Measured w side p
+  single-16 z = rw (placeOf-side side) at (faultAt-16 kinds w (placeOf side) met p (sym fault-is ∙ z))
+
+  one-step : endsAt w p ≡ true
+      → chainOf kinds w (placeOf side) met p ≡ pick {A = JOut} (eqb n 0) (0, 0, addFour met (wordOf p)) (n, p, met)
+  unfolding endsAt
+  one-step e =
+      let z = both-right (goodPtr p) (eqb (w (wordOf p)) 0) e in
+      chain-eq kinds w (placeOf side) met p
+      ∙ rw (faultAt-step kinds w (placeOf side) met p, ← fault-is, z) (by (eqb n 0))
+    where
+      by : (b : Bool)
+          → after (pick {A = Next JSt JOut} b (stop (0, 0, addFour met (wordOf p))) (stop (n, p, met))) (λ t. chainOf kinds w (t .0) (t .1) (t .2))
+          ≡ pick {A = JOut} b (0, 0, addFour met (wordOf p)) (n, p, met)
+      by true = refl
+      by false = refl
+
+  pub verdict-single : endsAt w p ≡ true → (r : Verdict) → r ≡ said kinds w side (n, p, []) → r ≡ verdictOf side kinds w met p .0
   unfolding verdictOf
-  verdict-barred room n e = rw (← is, ← e, n) refl
+  verdict-single e r q = q ∙ sym (ap (λ (j : JOut). said kinds w side j) (one-step e) ∙ by (eqb n 0) refl)
+    where
+      by : (b : Bool) → eqb n 0 ≡ b → said kinds w side (pick {A = JOut} b (0, 0, addFour met (wordOf p)) (n, p, met)) ≡ said kinds w side (n, p, [])
+      by true z = rw z refl
+      by false z = refl
 
 -- the descriptor at the place of a 16, by its four words
 module _ (kinds : List ℕ) (w : ℕ → ℕ) (side : Side) (p k : ℕ) (d : Descriptor) (at-k : k ≡ wordOf p) (is : d ≡ descAt w k) where

@@ -15,16 +15,18 @@ use layout::Side;
 use layout::Words;
 use layout::word_number;
 ghost use mathlib.Core.Path.{_≡_};
+ghost use mathlib.Core.Bool.{true};
+ghost use mathlib.Core.List.{[]};
 ghost use Prim.Native.Nat.{_≤_};
 ghost use lib.ListN.{length};
-ghost use Rattle.layout.specs.Layout.{descBytes};
+ghost use Rattle.layout.specs.Layout.{descBytes, goodPtr};
 ghost use Rattle.words.specs.Word.{word};
 ghost use Rattle.words.specs.WordSet.{view};
 ghost use Rattle.blocks.specs.Room.{roomOf};
 ghost use Rattle.descriptor.specs.Fields.{lengthOf, firstByte};
 ghost use Rattle.descriptor.specs.Rules.{lengthFault};
-ghost use Rattle.chain.specs.Chain.{blockFault, descFault, judgeStep, chainOf, placeOf, verdictOf};
-ghost use Rattle.chain.specs.Hands.{packed, unpacked, faultAt, transmitPast, transmitStep, receiveStep};
+ghost use Rattle.chain.specs.Chain.{blockFault, descFault, judgeStep, chainOf, placeOf, said, verdictOf};
+ghost use Rattle.chain.specs.Hands.{packed, unpacked, faultAt, Measured, endsAt, transmitPast, transmitStep, receiveStep};
 
 // A refusal number and its place travel as one number, with the refusal number in the low byte.
 const LOW_BYTE: u64 = 256;
@@ -247,17 +249,14 @@ fn follow(side: Side, m: &[u8], kinds: &[u8], met: &mut Words, at: u32) -> u64
     }
 }
 
-// What is said of a chain. met comes in with the words in use, so that 13 is one test, and goes out with the words met added.
-pub fn check_chain(side: Side, m: &[u8], kinds: &[u8], met: &mut Words, at: u32) -> Verdict
-    requires { ⌜ length (now m) ≡ descBytes ⌝ }
-    ensures { λ r. ⌜ (r, view (now (met .exit))) ≡ verdictOf side (now (kinds .entry)) (word (now (m .entry))) (view (now (met .entry))) at ⌝ }
+// A refusal number and its place as the answer: with 16 the buffer there is asked once more, for the block.
+fn verdict_at(side: Side, m: &[u8], kinds: &[u8], number: u8, place: u32) -> Verdict
+    requires { ⌜ (length (now m) ≡ descBytes) × (number ≡ 16 → Measured (word (now m)) side place) ⌝ }
+    ensures { λ r. ⌜ r ≡ said (now (kinds .entry)) (word (now (m .entry))) side (number, place, []) ⌝ }
 {
-    let v = follow(side, m, kinds, met, at);
-    let number = (v % LOW_BYTE) as u8;
     if number == 0 {
         return Verdict::Good;
     }
-    let place = (v / LOW_BYTE) as u32;
     if number != NOT_PERMITTED {
         return Verdict::Bad(Fault {
             number: number,
@@ -272,4 +271,55 @@ pub fn check_chain(side: Side, m: &[u8], kinds: &[u8], met: &mut Words, at: u32)
         place: place,
         room: room,
     })
+}
+
+// What is said of a chain. met comes in with the words in use, so that 13 is one test, and goes out with the words met added.
+pub fn check_chain(side: Side, m: &[u8], kinds: &[u8], met: &mut Words, at: u32) -> Verdict
+    requires { ⌜ length (now m) ≡ descBytes ⌝ }
+    ensures { λ r. ⌜ (r, view (now (met .exit))) ≡ verdictOf side (now (kinds .entry)) (word (now (m .entry))) (view (now (met .entry))) at ⌝ }
+{
+    let v = follow(side, m, kinds, met, at);
+    verdict_at(side, m, kinds, (v % LOW_BYTE) as u8, (v / LOW_BYTE) as u32)
+}
+
+// Where a chain of a side begins.
+fn first_place(side: Side) -> Place
+    ensures { λ r. ⌜ r ≡ placeOf side ⌝ }
+{
+    match side {
+        Side::Transmit => Place::Start,
+        Side::Receive => Place::Buffer,
+    }
+}
+
+// Rule 13 over the words in use alone, then the rest, of the descriptor that a good pointer names.
+fn fault_in_use(m: &[u8], kinds: &[u8], used: &Words, pl: Place, at: u32) -> u8
+    requires { ⌜ (length (now m) ≡ descBytes) × (goodPtr at ≡ true) ⌝ }
+    ensures { λ r. ⌜ r ≡ faultAt (now (kinds .entry)) (word (now (m .entry))) pl (now (used .entry)) at ⌝ }
+{
+    let k = word_number(at);
+    if !words::four_free(used, k) {
+        return OVERLAP;
+    }
+    descriptor_fault(m, kinds, pl, k)
+}
+
+// Whether the chain from at is one descriptor, as most are that a driver hands over.
+pub fn is_single(m: &[u8], at: u32) -> bool
+    requires { ⌜ length (now m) ≡ descBytes ⌝ }
+    ensures { λ r. ⌜ r ≡ endsAt (word (now (m .entry))) at ⌝ }
+{
+    if !layout::is_good(at) {
+        return false;
+    }
+    words::word_of(m, word_number(at)) == 0
+}
+
+// What is said of such a chain. It meets no word twice, and no set of words met is made.
+pub fn check_single(side: Side, m: &[u8], kinds: &[u8], used: &Words, at: u32) -> Verdict
+    requires { ⌜ (length (now m) ≡ descBytes) × (endsAt (word (now m)) at ≡ true) ⌝ }
+    ensures { λ r. ⌜ r ≡ verdictOf side (now (kinds .entry)) (word (now (m .entry))) (now (used .entry)) at .0 ⌝ }
+{
+    let number = fault_in_use(m, kinds, used, first_place(side), at);
+    verdict_at(side, m, kinds, number, at)
 }

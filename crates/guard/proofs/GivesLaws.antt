@@ -8,6 +8,7 @@
 --     released-gives                after the release
 --     admitted-refused, -passed, -sound   1 or 2, or what the call itself does
 --     write-refused, write-gives, write-sound   a whole guest write
+--     store-word, store-sound       a store to a free word, where there is nothing to release
 --     state-1, state-2, state-0     1 and 2 as the functions find them
 use Prim.Native.Nat.{ℕ, _+_, _-_, _/_, _%_, _≤_, _<_}
 use mathlib.Core.Path.{_≡_, refl, ap, _∙_, sym, subst}
@@ -17,12 +18,12 @@ use mathlib.Core.Logic.{_≢_}
 use native.Mathlib.Omega.{arith}
 use lib.ListN.{length}
 use lib.Dec.{eqb, ltb}
-use borrow.Author.Tests.{eq-eqb, ne-eqb, eqb-true, lt-ltb, le-ltb, not-false}
+use borrow.Author.Tests.{eq-eqb, ne-eqb, eqb-true, lt-ltb, le-ltb, not-true, not-false}
 use Rattle.layout.specs.Choice.{pick, both}
 use Rattle.layout.specs.Layout.{descFirst, descBytes, inDescriptors, queues, sideOf, channelOf}
 use Rattle.layout.specs.Class.{classAt, hdpClass}
 use Rattle.layout.specs.declared.Side.{Side}
-use Rattle.layout.proofs.ChoiceLaws.{clash, both-left}
+use Rattle.layout.proofs.ChoiceLaws.{clash, both-left, both-right}
 use Rattle.words.specs.Word.{word, put}
 use Rattle.words.specs.WordSet.{has}
 use Rattle.blocks.specs.Kinds.{fitKinds}
@@ -30,6 +31,7 @@ use Rattle.registers.specs.Table.{headOf, awaiting, setHead, setHdp, headsOf}
 use Rattle.registers.specs.Rules.{headNumber, registerFault, headWritten, written}
 use Rattle.chain.specs.Chain.{placeOf, chainOf}
 use Rattle.book.specs.HandOver.{Uses, takenFrom}
+use Rattle.book.specs.Quiet.{quiet}
 use Rattle.book.specs.World.{World, setMem, setState, setUses, fitParts, soundBook, unfit, soundWorld, release}
 use Rattle.guard.specs.declared.Effect.{Effect}
 use Rattle.guard.specs.declared.Effect.the-variants.{Plain, Started, Appended}
@@ -40,7 +42,8 @@ use Rattle.guard.specs.declared.Tail.the-variants.{Of, Nobody}
 use Rattle.guard.specs.Answers.{Outcome, accept, refuse, answerTo, worldAt, Gives}
 use Rattle.guard.specs.Judges.{started, judgeStart, judgeHead, judgeRegister, tailIn, judgeAppend, judgeLast, judgeWord, judgeClass, judge}
 use Rattle.guard.specs.Guard.{stateFault, admitted, guestWrite}
-use Rattle.guard.specs.Rulings.{handedOver, appended, ruled}
+use Rattle.book.proofs.QuietLaws.{release-quiet}
+use Rattle.guard.specs.Rulings.{handedOver, appended, ruled, freeWord, plainStore}
 
 -- a choice by a number that was found
 number-yes : {A : Type 0} (n : ℕ) (x y : A) → n ≡ 0 → pick (eqb n 0) x y ≡ x
@@ -82,6 +85,17 @@ gives-as e g = record {
   used = g .used ∙ ap (λ (x : Outcome). x .world .used) (sym e);
   lens = g .lens ∙ ap (λ (x : Outcome). x .world .lens) (sym e);
 }
+
+-- what a store to a free word tells
+pub store-word : (w : ℕ → ℕ) (t u : List ℕ) (a : ℕ) {b : Bool} → b ≡ plainStore a w t u → b ≡ true
+    → (a % 4 ≡ 0) × (inDescriptors a ≡ true) × (has u ((a - descFirst) / 4) ≡ false) × (quiet w t ≡ true)
+unfolding freeWord
+store-word w t u a e h =
+    let p = sym e ∙ h in
+    let f = both-left (freeWord a u) (quiet w t) p in
+    let g = both-right (inDescriptors a) _ f in
+    let free = not-true _ (both-right (eqb (a % 4) 0) _ g) in
+    (eqb-true (a % 4) 0 (both-left _ _ g), both-left (inDescriptors a) _ f, free, both-right (freeWord a u) (quiet w t) p)
 
 module _ (m k t u l : List ℕ) where
   abbrev here : World
@@ -298,6 +312,15 @@ module _ (m k t u l : List ℕ) where
       → Gives (guestWrite a v here) r m′ k t′ u′ l′
   unfolding guestWrite
   write-sound a v f s g = gives-as (admitted-sound (λ x. judge a v x) f s) g
+
+  -- ---- a store and nothing else
+
+  pub store-sound : (a v : ℕ) → unfit here ≡ false → soundWorld here ≡ true → {b : Bool} → b ≡ plainStore a (word m) t u → b ≡ true
+      → {m′ : List ℕ} → m′ ≡ put m ((a - descFirst) / 4) v → Gives (guestWrite a v here) (Accepted Plain) m′ k t u l
+  store-sound a v f s e h p =
+      let w = store-word (word m) t u a e h in
+      write-sound a v f s
+      (released-gives a v (release-quiet here (w .3)) (address-word a v (w .0) refl (w .1) refl (word-free ((a - descFirst) / 4) v (w .2) p)))
 
   -- ---- 1 and 2, as the functions find them
 

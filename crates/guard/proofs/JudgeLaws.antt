@@ -1,18 +1,21 @@
 -- What the judges' definitions say, case by case, in the form that the functions' proofs cite. Assumes nothing.
---     lastOf-is, last-none, last-stop, last-go   the last descriptor of a queue, step by step
+--     lastOf-is, last-none, last-stop, last-go   the last descriptor of a queue, step by step, by the numbers of words
+--     last-test, last-no                         whether it begins at a word
 --     tail-here, tail-next, tail-none            the queue whose last descriptor begins at a word, number by number
 --     tail-bound                                 it is one of them
 use Prim.Native.Nat.{ℕ, zero, suc, _+_, _<_, _≤_}
-use mathlib.Core.Path.{_≡_, refl, _∙_, sym}
+use mathlib.Core.Path.{_≡_, refl, ap, _∙_, sym}
 use mathlib.Core.Bool.{Bool, true, false}
 use mathlib.Core.List.{List, [], _∷_}
 use native.Mathlib.Omega.{arith}
 use native.Mathlib.Numerals.{add-one}
 use lib.ListN.{length, getD, take, drop}
+use lib.Dec.{eqb}
+use borrow.Author.Tests.{eq-eqb, ne-eqb, eqb-true, eqb-false}
 use Rattle.layout.specs.Choice.{pick}
-use Rattle.layout.specs.Layout.{goodPtr, wordOf, descWords}
+use Rattle.layout.specs.Layout.{addressEnd, goodPtr, wordOf, addr, placeOf, descWords}
 use Rattle.layout.proofs.ChoiceLaws.{clash}
-use Rattle.layout.proofs.PointerLaws.{goodPtr-zero}
+use Rattle.layout.proofs.PointerLaws.{goodPtr-is, goodPtr-zero, wordOf-addr, place-good, place-fits, place-past}
 use Rattle.guard.specs.declared.Tail.{Tail}
 use Rattle.guard.specs.declared.Tail.the-variants.{Of, Nobody}
 use Rattle.guard.specs.Judges.{lastFrom, lastOf, isLast, tailIn}
@@ -26,19 +29,52 @@ pub last-none : (w : ℕ → ℕ) (n p : ℕ) → n ≤ 0 → lastFrom w n p ≡
 last-none w zero p h = refl
 last-none w (suc n) p h = absurd (omega arith)
 
-pub last-stop : (w : ℕ → ℕ) (n p : ℕ) → 0 < n → goodPtr (w (wordOf p)) ≡ false → lastFrom w n p ≡ p
-last-stop w zero p h g = absurd (omega arith)
-last-stop w (suc n) p h g = simp g
+stop-at : (w : ℕ → ℕ) (n p : ℕ) → 0 < n → goodPtr (w (wordOf p)) ≡ false → lastFrom w n p ≡ p
+stop-at w zero p h g = absurd (omega arith)
+stop-at w (suc n) p h g = simp g
 
-pub last-go : (w : ℕ → ℕ) (n k p q : ℕ) → n ≡ suc k → q ≡ w (wordOf p) → goodPtr q ≡ true → lastFrom w k q ≡ lastFrom w n p
-last-go w zero k p q e f g = absurd (omega arith)
-last-go w (suc n) k p q e f g =
+go-on : (w : ℕ → ℕ) (n k p q : ℕ) → n ≡ suc k → q ≡ w (wordOf p) → goodPtr q ≡ true → lastFrom w k q ≡ lastFrom w n p
+go-on w zero k p q e f g = absurd (omega arith)
+go-on w (suc n) k p q e f g =
     let h : n ≡ k = omega arith in
     rw (f, ← h) (sym (pick-yes (goodPtr (w (wordOf p))) _ _ (rw (← f) g)))
   where
     pick-yes : (b : Bool) (x y : ℕ) → b ≡ true → pick b x y ≡ x
     pick-yes true x y r = refl
     pick-yes false x y r = let z : _≡_ {A = ℕ} 0 1 = cc in absurd (omega arith)
+
+-- the next of the descriptor at word i is x, whose place is j
+module _ (w : ℕ → ℕ) (n i : ℕ) {x j : ℕ} (e : x ≡ w i) (f : j ≡ placeOf x) where
+  next-is : x ≡ w (wordOf (addr i))
+  next-is = e ∙ ap w (sym (wordOf-addr i))
+
+  pub last-stop : 0 < n → 2044 < j → lastFrom w n (addr i) ≡ addr i
+  last-stop h l = stop-at w n (addr i) h (rw (← next-is) (place-past x (rw (← f) l)))
+
+  pub last-go : (k : ℕ) → n ≡ suc k → x < addressEnd → j ≤ 2044 → lastFrom w k (addr j) ≡ lastFrom w n (addr i)
+  last-go k s h l =
+      let g = place-fits x h (rw (← f) l) in
+      let a : x ≡ addr j = goodPtr-is x g .0 ∙ ap addr (sym (f ∙ place-good x g)) in
+      go-on w n k (addr i) (addr j) s (sym a ∙ next-is) (rw (← a) g)
+
+-- a head whose place is i, and the last descriptor's word r
+pub last-no : (w : ℕ → ℕ) (head k : ℕ) {i : ℕ} → i ≡ placeOf head → 2044 < i → false ≡ isLast w head k
+unfolding isLast
+last-no w head k f l = rw (place-past head (rw (← f) l)) refl
+
+pub last-test : (w : ℕ → ℕ) (head k r : ℕ) {i : ℕ} → head < addressEnd → i ≡ placeOf head → i ≤ 2044 → addr r ≡ lastOf w (addr i) → eqb r k ≡ isLast w head k
+unfolding isLast
+last-test w head k r {i} h f l e =
+    let g = place-fits head h (rw (← f) l) in
+    let a : head ≡ addr i = goodPtr-is head g .0 ∙ ap addr (sym (f ∙ place-good head g)) in
+    rw g (same-addr r k ∙ ap (λ (p : ℕ). eqb p (addr k)) (e ∙ ap (λ (p : ℕ). lastOf w p) (sym a)))
+  where
+    same-addr : (x y : ℕ) → eqb x y ≡ eqb (addr x) (addr y)
+    same-addr x y = at (eqb x y) refl
+      where
+        at : (b : Bool) → eqb x y ≡ b → b ≡ eqb (addr x) (addr y)
+        at true q = sym (eq-eqb (addr x) (addr y) (ap addr (eqb-true x y q)))
+        at false q = sym (ne-eqb (addr x) (addr y) (λ z. eqb-false x y q (omega arith)))
 
 -- ---- which queue
 -- 0 names no descriptor: a head past the end of the table ends no queue

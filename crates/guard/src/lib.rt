@@ -11,6 +11,8 @@ use book::release_book;
 use book::take_chain;
 use chain::Verdict;
 use chain::check_chain;
+use chain::check_single;
+use chain::is_single;
 use layout::BUSY;
 use layout::CONTROL;
 use layout::CP;
@@ -18,6 +20,7 @@ use layout::DESC_BYTES;
 use layout::DESC_FIRST;
 use layout::DESC_WORDS;
 use layout::HDP;
+use layout::LAST_PLACE;
 use layout::Lengths;
 use layout::MISALIGNED;
 use layout::NOT_GUARDED;
@@ -35,9 +38,8 @@ use layout::WORD_IN_USE;
 use layout::Words;
 use layout::class_at;
 use layout::is_descriptor;
-use layout::is_good;
+use layout::place_of;
 use layout::side_of;
-use layout::word_number;
 use registers::HDP_AT;
 use registers::State;
 use registers::ack_fault;
@@ -60,7 +62,7 @@ ghost use mathlib.Core.Bool.{true, false};
 ghost use mathlib.Core.List.{List};
 ghost use Prim.Native.Nat.{ℕ, _+_, _-_, _/_, _≤_, _<_};
 ghost use lib.ListN.{length};
-ghost use Rattle.layout.specs.Layout.{descBytes, descWords, queues, goodPtr};
+ghost use Rattle.layout.specs.Layout.{descBytes, descWords, queues, addr};
 ghost use Rattle.words.specs.Word.{word};
 ghost use Rattle.registers.specs.Table.{awaiting, setTearing, headsOf};
 ghost use Rattle.registers.specs.Rules.{ackFault, ackWritten, teardownNumber, resetNumber, resetWritten, zeroFault};
@@ -68,7 +70,7 @@ ghost use Rattle.chain.specs.Chain.{verdictOf, verdictNumber};
 ghost use Rattle.book.specs.World.{fitParts, soundBook, unfit, soundWorld, release};
 ghost use Rattle.guard.specs.Answers.{worldAt, Gives, answerTo, numberOf, effectOf, numberOfSide, sideNumber, channelNumber};
 ghost use Rattle.guard.specs.Judges.{lastOf, isLast, tailIn, judgeStart, judgeHead, judgeLast, judgeWord, judgeClass, judge};
-ghost use Rattle.guard.specs.Rulings.{handedOver, appended, ruled};
+ghost use Rattle.guard.specs.Rulings.{handedOver, appended, ruled, freeWord, plainStore};
 ghost use Rattle.guard.specs.Guard.{stateFault, guestWrite};
 
 const HDP_LAST: u8 = HDP + QUEUES as u8 - 1;
@@ -183,11 +185,14 @@ fn refusal(c: Verdict) -> u8
     }
 }
 
-// What is said of the chain from p, over the words in use. Only a call that judges a chain makes the set of words met.
+// What is said of the chain from p, over the words in use. Only a chain of more than one descriptor needs the set of words met.
 fn check_used(s: Side, p: u32, m: &[u8], kinds: &[u8], used: &Words) -> Verdict
     requires { ⌜ length (now m) ≡ descBytes ⌝ }
     ensures { λ r. ⌜ r ≡ verdictOf s (now (kinds .entry)) (word (now (m .entry))) (now (used .entry)) p .0 ⌝ }
 {
+    if is_single(m, p) {
+        return check_single(s, m, kinds, used, p);
+    }
     let mut met = [0u8; DESC_WORDS];
     copy_set(used, &mut met);
     check_chain(s, m, kinds, &mut met, p)
@@ -353,16 +358,16 @@ fn judge_class(
     }
 }
 
-// The last descriptor from the good pointer p on.
-fn last_from(m: &[u8], p: u32) -> u32
-    requires { ⌜ (length (now m) ≡ descBytes) × (goodPtr p ≡ true) ⌝ }
-    ensures { λ r. ⌜ r ≡ lastOf (word (now (m .entry))) p ⌝ }
+// The last descriptor from the one at word i on, by the number of its word.
+fn last_from(m: &[u8], i: usize) -> usize
+    requires { ⌜ (length (now m) ≡ descBytes) × (i ≤ 2044) ⌝ }
+    ensures { λ r. ⌜ addr r ≡ lastOf (word (now (m .entry))) (addr i) ⌝ }
 {
-    let mut at = p;
+    let mut at = i;
     let mut n: usize = DESC_WORDS;
     while 0 < n {
-        let next = word_of(m, word_number(at));
-        if !is_good(next) {
+        let next = place_of(word_of(m, at));
+        if LAST_PLACE < next {
             return at;
         }
         at = next;
@@ -376,10 +381,11 @@ fn is_last(m: &[u8], head: u32, k: usize) -> bool
     requires { ⌜ (length (now m) ≡ descBytes) × (k < descWords) ⌝ }
     ensures { λ r. ⌜ r ≡ isLast (word (now (m .entry))) head k ⌝ }
 {
-    if !is_good(head) {
+    let i = place_of(head);
+    if LAST_PLACE < i {
         return false;
     }
-    last_from(m, head) == DESC_FIRST + 4 * (k as u32)
+    last_from(m, i) == k
 }
 
 // The queue whose last descriptor begins at word k, by its number over the heads.
@@ -470,7 +476,19 @@ fn judge_address(
     judge_word(((a - DESC_FIRST) / 4) as usize, v, m, kinds, t, used, lens)
 }
 
-// The release, then the judge. Where nothing is to be released, as before most writes of a driver, the book is only looked at.
+// The release. Where there is nothing to release, as before most writes of a driver, the book is only looked at.
+fn release_any(m: &[u8], t: &mut State, used: &mut Words, lens: &mut Lengths)
+    requires { ⌜ length (now m) ≡ descBytes ⌝ }
+    ensures { λ _. ⌜ ((k : List ℕ) → release (worldAt (now (m .entry)) k (now (t .entry)) (now (used .entry)) (now (lens .entry)))
+        ≡ worldAt (now (m .entry)) k (now (t .exit)) (now (used .exit)) (now (lens .exit))) ⌝ }
+{
+    if is_quiet(m, t) {
+        return;
+    }
+    release_book(m, t, used, lens);
+}
+
+// The release, then the judge.
 fn write_released(
     a: u32,
     v: u32,
@@ -484,10 +502,7 @@ fn write_released(
     ensures { λ r. ⌜ Gives (judge a v (release (worldAt (now (m .entry)) (now (kinds .entry)) (now (t .entry)) (now (used .entry)) (now (lens .entry))))) r
         (now (m .exit)) (now (kinds .entry)) (now (t .exit)) (now (used .exit)) (now (lens .exit)) ⌝ }
 {
-    if is_quiet(m, t) {
-        return judge_address(a, v, m, kinds, t, used, lens);
-    }
-    release_book(m, t, used, lens);
+    release_any(m, t, used, lens);
     judge_address(a, v, m, kinds, t, used, lens)
 }
 
@@ -523,8 +538,32 @@ pub fn state_fault(m: &[u8], kinds: &[u8], t: &State, used: &Words, lens: &Lengt
     0
 }
 
+// Whether a is the address of a descriptor word that is not in use.
+fn is_free_word(a: u32, used: &Words) -> bool
+    ensures { λ r. ⌜ r ≡ freeWord a (now (used .entry)) ⌝ }
+{
+    if !is_descriptor(a) {
+        return false;
+    }
+    if 0 < a % 4 {
+        return false;
+    }
+    !is_used(used, ((a - DESC_FIRST) / 4) as usize)
+}
+
+// Whether a write to a is a store and nothing else.
+fn is_plain_store(a: u32, m: &[u8], t: &State, used: &Words) -> bool
+    requires { ⌜ length (now m) ≡ descBytes ⌝ }
+    ensures { λ r. ⌜ r ≡ plainStore a (word (now (m .entry))) (now (t .entry)) (now (used .entry)) ⌝ }
+{
+    if !is_free_word(a, used) {
+        return false;
+    }
+    is_quiet(m, t)
+}
+
 // A guest write on a state that is known to be fit and sound: what a caller has who started fresh and changed the book through the
-// guard alone. It costs what the write itself needs.
+// guard alone. It costs what the write itself needs; a store to a free word, which most writes of a driver are, is done here.
 pub fn guest_write_sound(
     a: u32,
     v: u32,
@@ -539,6 +578,10 @@ pub fn guest_write_sound(
     ensures { λ r. ⌜ Gives (guestWrite a v (worldAt (now (m .entry)) (now (kinds .entry)) (now (t .entry)) (now (used .entry)) (now (lens .entry)))) r
         (now (m .exit)) (now (kinds .entry)) (now (t .exit)) (now (used .exit)) (now (lens .exit)) ⌝ }
 {
+    if is_plain_store(a, m, t, used) {
+        put_at(m, ((a - DESC_FIRST) / 4) as usize, v);
+        return Answer::Accepted(Effect::Plain);
+    }
     write_released(a, v, m, kinds, t, used, lens)
 }
 
