@@ -7,7 +7,7 @@
 #include <ucontext.h>
 
 /* On both machines: the trap handler runs on a stack of 4 KiB. */
-#define LIMIT 2816
+#define LIMIT 2880
 #define SET 2048 /* a call that judges a chain has a set of the words met: less than that, and nothing was measured */
 #define STACK 65536
 #define PAINT 0xA5

@@ -4,8 +4,9 @@
 --     ruled k t′ t           a register judge that found the fault k, or changed the table t to t′
 --     freeWord a u           a is the address of a descriptor word that is not in use
 --     plainStore a w t u     a write there is a store and nothing else: there is nothing to release either
+--     cpAddress q            where the CP of queue q stands
 -- Assumes nothing: these are definitions.
-use Prim.Native.Nat.{ℕ, _-_, _/_, _%_}
+use Prim.Native.Nat.{ℕ, _+_, _*_, _-_, _/_, _%_}
 use mathlib.Core.Bool.{Bool, not}
 use mathlib.Core.List.{List}
 use lib.Dec.{eqb}
@@ -39,6 +40,10 @@ freeWord a u = both (inDescriptors a) (both (eqb (a % 4) 0) (not (has u ((a - de
 
 abbrev pub plainStore : ℕ → (ℕ → ℕ) → List ℕ → List ℕ → Bool
 plainStore a w t u = both (freeWord a u) (quiet w t)
+
+-- "TX0_CP A40, RX0_CP A60", by channel
+abbrev pub cpAddress : ℕ → ℕ
+cpAddress q = 0x4A10_0A40 + 0x20 * (q % 2) + 4 * (q / 2)
 
 unfoldable pub ruled : ℕ → List ℕ → List ℕ → Answer × List ℕ
 ruled k t′ t = pick (eqb k 0) (Accepted Plain, t′) (Refused k, t)

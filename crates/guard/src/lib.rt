@@ -53,6 +53,7 @@ use registers::teardown_number;
 use registers::write_ack;
 use registers::write_head;
 use registers::zero_fault;
+use std::num::wrapping_sub_u32;
 use words::copy_set;
 use words::is_used;
 use words::put_at;
@@ -60,18 +61,24 @@ use words::word_of;
 ghost use mathlib.Core.Path.{_≡_};
 ghost use mathlib.Core.Bool.{true, false};
 ghost use mathlib.Core.List.{List};
-ghost use Prim.Native.Nat.{ℕ, _+_, _-_, _/_, _≤_, _<_};
+ghost use Prim.Native.Nat.{ℕ, _+_, _≤_, _<_};
 ghost use lib.ListN.{length};
 ghost use Rattle.layout.specs.Layout.{descBytes, descWords, queues, addr};
 ghost use Rattle.words.specs.Word.{word};
 ghost use Rattle.registers.specs.Table.{awaiting, setTearing, headsOf};
 ghost use Rattle.registers.specs.Rules.{ackFault, ackWritten, teardownNumber, resetNumber, resetWritten, zeroFault};
 ghost use Rattle.chain.specs.Chain.{verdictOf, verdictNumber};
+ghost use Rattle.book.specs.Quiet.{quiet};
 ghost use Rattle.book.specs.World.{fitParts, soundBook, unfit, soundWorld, release};
 ghost use Rattle.guard.specs.Answers.{worldAt, Gives, answerTo, numberOf, effectOf, numberOfSide, sideNumber, channelNumber};
 ghost use Rattle.guard.specs.Judges.{lastOf, isLast, tailIn, judgeStart, judgeHead, judgeLast, judgeWord, judgeClass, judge};
-ghost use Rattle.guard.specs.Rulings.{handedOver, appended, ruled, freeWord, plainStore};
+ghost use Rattle.guard.specs.Rulings.{handedOver, appended, ruled, freeWord, plainStore, cpAddress};
 ghost use Rattle.guard.specs.Guard.{stateFault, guestWrite};
+
+// Where the CPs begin: those that transmit, by channel, and so many bytes behind them those that receive.
+const CP_FIRST: u32 = 0x4A10_0A40;
+
+const CP_SIDE: u32 = 0x20;
 
 const HDP_LAST: u8 = HDP + QUEUES as u8 - 1;
 
@@ -551,6 +558,32 @@ fn is_free_word(a: u32, used: &Words) -> bool
     !is_used(used, ((a - DESC_FIRST) / 4) as usize)
 }
 
+// The queue whose CP stands d bytes behind the first one: QUEUES or more where there is none.
+fn cp_queue(d: u32) -> usize
+    requires { ⌜ d < 64 ⌝ }
+    ensures { λ q. ⌜ (q < queues → cpAddress q ≡ cpAddress 0 + d) ⌝ }
+{
+    if 0 < d % 4 {
+        return QUEUES;
+    }
+    (2 * (d % CP_SIDE / 4) + d / CP_SIDE) as usize
+}
+
+// The queue whose CP stands at a, where there is nothing to release either; else QUEUES or more. The list of classes is not asked.
+fn quiet_cp(a: u32, m: &[u8], t: &State) -> usize
+    requires { ⌜ length (now m) ≡ descBytes ⌝ }
+    ensures { λ q. ⌜ (q < queues → (a ≡ cpAddress q) × (quiet (word (now (m .entry))) (now (t .entry)) ≡ true)) ⌝ }
+{
+    let d = wrapping_sub_u32(a, CP_FIRST);
+    if 2 * CP_SIDE <= d {
+        return QUEUES;
+    }
+    if !is_quiet(m, t) {
+        return QUEUES;
+    }
+    cp_queue(d)
+}
+
 // Whether a write to a is a store and nothing else.
 fn is_plain_store(a: u32, m: &[u8], t: &State, used: &Words) -> bool
     requires { ⌜ length (now m) ≡ descBytes ⌝ }
@@ -563,7 +596,8 @@ fn is_plain_store(a: u32, m: &[u8], t: &State, used: &Words) -> bool
 }
 
 // A guest write on a state that is known to be fit and sound: what a caller has who started fresh and changed the book through the
-// guard alone. It costs what the write itself needs; a store to a free word, which most writes of a driver are, is done here.
+// guard alone. It costs what the write itself needs; a store to a free word and an acknowledgement, which most writes of a driver are,
+// are done here.
 pub fn guest_write_sound(
     a: u32,
     v: u32,
@@ -581,6 +615,10 @@ pub fn guest_write_sound(
     if is_plain_store(a, m, t, used) {
         put_at(m, ((a - DESC_FIRST) / 4) as usize, v);
         return Answer::Accepted(Effect::Plain);
+    }
+    let q = quiet_cp(a, m, t);
+    if q < QUEUES {
+        return judge_ack(q, v, t);
     }
     write_released(a, v, m, kinds, t, used, lens)
 }

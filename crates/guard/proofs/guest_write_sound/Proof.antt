@@ -7,6 +7,7 @@ use borrow.Author.Needs.{needs}
 use Rattle.layout.specs.Layout.{inDescriptors}
 use Rattle.layout.proofs.PointerLaws.{inDescriptors-bounds}
 use Rattle.guard.proofs.GivesLaws.{fit-size, write-sound, store-word, store-sound}
+use Rattle.guard.proofs.CommonLaws.{ack-sound}
 use Rattle.guard.proofs.guest_write_sound.Statement.{statement}
 use Rattle.guard.proofs.guest_write_sound.Tie as tie
 
@@ -40,16 +41,31 @@ returns c =
     let s = start (t .before) in
     store-sound _ _ _ _ _ _ _ (s .pre .0) (s .pre .1) (t .before .is-plain-store .ensures) (t .if1 .taken) (p .put-at .ensures)
 
-write-released-requires : tie.Need-write-released-requires
-write-released-requires c κs = fit-size _ _ _ _ _ (start (c .before .before .before .before .before) .pre .0)
+quiet-cp-requires : tie.Need-quiet-cp-requires
+quiet-cp-requires c κs = fit-size _ _ _ _ _ (start (c .before .before .before) .pre .0)
+
+judge-ack-requires : tie.Need-judge-ack-requires
+judge-ack-requires c κs = search needs
 
 same-length-2 : tie.Need-same-length-2
 same-length-2 c = search needs
 
 returns-2 : tie.Need-returns-2
 returns-2 c =
+    let t = c .before .before in
+    let s = start (t .before .before .before .before .before) in
+    ack-sound _ _ _ _ _ _ _ _ (s .pre .0) (s .pre .1) (t .if2 .taken) (t .before .quiet-cp .ensures (t .if2 .taken)) (c .judge-ack .ensures)
+
+write-released-requires : tie.Need-write-released-requires
+write-released-requires c κs = fit-size _ _ _ _ _ (start (c .before .before .before .before .before .before .before .before .before) .pre .0)
+
+same-length-3 : tie.Need-same-length-3
+same-length-3 c = search needs
+
+returns-3 : tie.Need-returns-3
+returns-3 c =
     let w = c .before .before in
-    let s = start (w .before .before .before .before .before .before) in
+    let s = start (w .before .before .before .before .before .before .before .before .before .before) in
     write-sound _ _ _ _ _ _ _ (s .pre .0) (s .pre .1) (w .write-released .ensures)
 
 pub guest-write-sound-spec : {M : Type 1} → statement M
@@ -62,6 +78,10 @@ guest-write-sound-spec =
     put-at-requires
     same-length
     returns
-    write-released-requires
+    quiet-cp-requires
+    judge-ack-requires
     same-length-2
-    returns-2)
+    returns-2
+    write-released-requires
+    same-length-3
+    returns-3)
