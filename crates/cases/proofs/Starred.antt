@@ -1,6 +1,6 @@
 -- The starred cases of document 01, "Both sides of each line", proved together by computing over a full 8,192-byte memory.
 -- Each goes through the whole guest write, from 1 and 2 down, on a machine that was initialised by guest writes.
--- Also here: "One packet of 60 + 40 bytes takes 9" steps, and the answers of the bench's example.
+-- Also here: a packet of 60 + 40 bytes takes nine steps, and the answers of the bench's example.
 -- Assumes nothing.
 use Prim.Native.Nat.{ℕ, zero, suc, _+_}
 use mathlib.Core.Path.{_≡_, refl}
@@ -78,7 +78,7 @@ pub record Starred : Type 0 where
   -- "Transmit 60 + 40, packet 100: 0; 101: 17."
   pub tx-60-40-100-0 : answered (txTwo 100) txHdp (addr 0) ≡ 0
   pub tx-60-40-101-17 : answered (txTwo 101) txHdp (addr 0) ≡ 17
-  -- "One packet of 60 + 40 bytes takes 9": HDP reads 0 after nine transmit steps and not after eight
+  -- a packet of 60 + 40 bytes takes nine steps: HDP reads 0 after nine transmit steps and not after eight
   pub nine-steps : hdpAfter 9 ≡ 0
   pub not-eight : eqb (hdpAfter 8) 0 ≡ false
   pub sent-100 : sending 9 .ctl .sent ≡ 100

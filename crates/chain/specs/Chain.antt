@@ -56,7 +56,7 @@ pastDesc w pl met d =
     (stop (0, 0, addFour met d))
     (go (behind pl (w (d + 2)) (w (d + 3)), addFour met d, w d))
 
--- "12 bad descriptor pointer; 13 a word of the descriptor is in use or met earlier in this chain"
+-- "12 bad descriptor pointer", "13 a word of the descriptor is in use or met earlier in this chain"
 unfoldable pub judgeStep : List ℕ → (ℕ → ℕ) → JSt → Next JSt JOut
 judgeStep kinds w s =
     pick (goodPtr (s .2))

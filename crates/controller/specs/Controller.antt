@@ -12,7 +12,7 @@
 --     frameOf n                    a frame of n bytes arrives on channel 0: 23, 24, or it is taken
 --     arrival r                    the same, of what was handed back
 --     unguardedWrite a v           a guest write that no guard has judged
---     freshController              "A fresh machine has .. zero registers, .. idle engines, and awaits all four zeros"
+--     freshController              "A fresh machine has zero descriptor memory and registers, .. idle engines, and awaits all four zeros"
 -- Registers and flags are a table (crate registers), as the guard's are; no head is ever set in it.
 -- Assumes nothing: these are definitions.
 use Prim.Native.Nat.{ℕ, _+_, _-_, _/_, _%_, min}
@@ -114,7 +114,7 @@ pub record Moved : Type 0 where
 abbrev pub outcome : Stepped → List ℕ → Moved
 outcome r m = record { ctl = r .ctl; mem = m; burst = r .burst; number = r .number }
 
--- an answer, and nothing else; "a step that cannot move changes nothing" answers 0
+-- an answer, and nothing else. "A step that cannot move changes nothing": it answers 0
 abbrev pub answer : ℕ → Controller → List ℕ → Moved
 answer n c m = record { ctl = c; mem = m; burst = Quiet; number = n }
 

@@ -5,8 +5,8 @@
 --     close w                   (3)
 --     markEoq, clearOwn m       (4), (5): they write descriptor memory m
 --     finish                    (6)
---     sendStep held m phase     the step of any phase; held: "while reset or transmit teardown is pending"
--- Each gives what follows, or Unfit ("a record unfit for its step"). Assumes nothing: these are definitions.
+--     sendStep held m phase     the step of any phase; held: "While reset or transmit teardown is pending"
+-- Each gives what follows, or Unfit ("A record unfit for its step"). Assumes nothing: these are definitions.
 use Prim.Native.Nat.{ℕ, _+_, _-_, min}
 use mathlib.Core.Bool.{Bool, true, false}
 use mathlib.Core.List.{List}
@@ -118,7 +118,7 @@ clearOwn m e hdp cp =
 unfoldable pub finish : ℕ → ℕ → Sends
 finish next hdp = toPhase (pick (eqb next 0) Idle New) next hdp
 
--- "While reset or transmit teardown is pending, a new packet is not fetched"; "a step that cannot move changes nothing"
+-- "While reset or transmit teardown is pending, a new packet is not fetched"; "A step that cannot move changes nothing"
 unfoldable pub sendStep : Bool → List ℕ → Sending → ℕ → ℕ → Sends × List ℕ
 sendStep held m Idle hdp cp = (toPhase Idle hdp cp, m)
 sendStep held m New hdp cp = (pick held (toPhase New hdp cp) (fetch (word m) Start hdp hdp cp), m)

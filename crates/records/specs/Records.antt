@@ -1,7 +1,7 @@
 -- The records of a bench file. Document 01, "The bench": "records, each after a two-byte mark, numbers little-endian".
 --     u16At, u32At bs i       the number at an offset
 --     marked a b bs           the two-byte mark
---     needs n bs d            d where n bytes are there, else Bad: "a cut record"
+--     needs n bs d            d where n bytes are there, else Bad: a record that is cut
 --     engineMax, engineOf e   the highest number of an engine, and the engine of a number
 --     decodeRam, decodeWrite, decodeKind, decodeFrame, decodeSteps   each kind of record
 --     decode first bs         what the bytes bs begin with; first: no record has been read yet

@@ -215,7 +215,7 @@ chainOf-number kinds w pl met p =
 
 -- ---- a verdict
 
--- "this number, that world"
+-- a refusal: its number, and the world as it is
 pub record Refusal (s : World) (o : Outcome) : Type 0 where
   pub number : ℕ
   pub told : Refuses number

@@ -1,6 +1,7 @@
--- Demand 3, as it is proved: "From a fresh start, through any sequence of guarded writes, kind changes, frames and controller
--- steps, the controller model never becomes undefined; each read burst lies in blocks owned by Linux, each store burst in blocks
--- that are Linux data at that moment; the controller changes only descriptor words that the book holds as in use."
+-- Demand 3, in the customer's own words: "Start fresh, then run guest writes and kind changes through the guard, frames and
+-- controller steps, each whole, one after another, in any sequence, nothing else touching the buffers. The controller model never
+-- reaches its undefined state. Each read burst lies in blocks owned by Linux, each store burst in blocks that are Linux data at that
+-- moment, and the controller changes only descriptor words the book holds as in use." This is the statement that is proved.
 --     Legal o, AllLegal os    an operation that can be asked for: addresses and values are 32-bit words, all else any number
 --     blockOf x               the block of the byte at address x
 --     LiesIn side kinds at n  each of the n bytes from at on is in RAM, in a block of the table that permits the side:
@@ -49,13 +50,13 @@ LiesIn side kinds at n =
     (x : ℕ) → at ≤ x → x < at + n
     → (ramFirst ≤ x) × (blockOf x < length kinds) × (permits side (getD kinds (blockOf x) 0) ≡ true)
 
--- "each read burst lies in blocks owned by Linux, each store burst in blocks that are Linux data at that moment"
+-- "Each read burst lies in blocks owned by Linux, each store burst in blocks that are Linux data at that moment"
 abbrev pub InPlace : List ℕ → Burst → Type 0
 InPlace kinds Quiet = Unit
 InPlace kinds (Read at n) = LiesIn Transmit kinds at n
 InPlace kinds (Store at n) = LiesIn Receive kinds at n
 
--- "the controller changes only descriptor words that the book holds as in use"
+-- "the controller changes only descriptor words the book holds as in use"
 abbrev pub Spares : Op → Machine → Type 0
 Spares (write a v) s = Unit
 Spares (kind b k) s = Unit
@@ -74,7 +75,7 @@ Safety =
     (kinds : List ℕ) → fitKinds kinds ≡ true → (os : List Op) → AllLegal os → (o : Op) → Legal o
     → Safe o (runOps os (freshMachine kinds))
 
--- "1 descriptor memory not 8,192 bytes, N out of range, or a kind byte over 4; 2 book unsound": neither is ever so, which lets a
+-- "1 descriptor memory not 8,192 bytes, N out of range, or a kind byte over 4", "2 book unsound": neither is ever so, which lets a
 -- caller that keeps its own book skip these checks
 abbrev pub Soundness : Type 0
 Soundness =
