@@ -2,7 +2,7 @@
 --     takeStep-falls           each step leaves fewer free words
 --     takeStep-bad, -met, -go  one step, as the calls tell it
 --     taken-eq                 the recursion equation: one step, and then the hand-over from where it goes
---     taken-bad, -met, -go     a pointer that names no free descriptor ends the chain; else its descriptor is taken
+--     taken-go                 a descriptor that is free is taken
 --     taken-hop, hop-falls     recursion and measure, as a function tells them that handles one descriptor
 use Prim.Native.Nat.{ℕ, _+_, _<_}
 use mathlib.Core.Path.{_≡_, refl, ap, _∙_, sym}
@@ -74,15 +74,7 @@ module _ (w : ℕ → ℕ) (side : Side) (u : Uses) (p : ℕ) where
   unfolding takenFrom
   taken-eq = run-eq (takeStep w side) _ _ (takeStep-falls w side) (u, p)
 
-  pub taken-bad : goodPtr p ≡ false → takenFrom w side u p ≡ u
-  unfolding takeStep
-  taken-bad g = taken-eq ∙ simp g
-
   module _ (g : goodPtr p ≡ true) where
-    pub taken-met : freeAt (u .0) (wordOf p) ≡ false → takenFrom w side u p ≡ u
-    unfolding takeStep
-    taken-met h = taken-eq ∙ simp (g, h)
-
     pub taken-go : freeAt (u .0) (wordOf p) ≡ true
         → takenFrom w side u p ≡ takenFrom w side (takeOne side (w (wordOf p + 2)) u (wordOf p)) (w (wordOf p))
     unfolding takeStep

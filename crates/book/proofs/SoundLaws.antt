@@ -3,7 +3,7 @@
 --     walkStep-bad, -met, -go, firstStep-bad, -met, -go   one step, as the calls tell it
 --     walk-eq, firsts-eq                 the recursion equations: one step, and then the walk from where it goes
 --     walk-end, -bad, -met, -go          the chain walk by cases: at 0, at a pointer that is not good, at a word met before, else
---     firsts-bad, -met, -go              the same for the first words
+--     firsts-bad                         the same for the first words
 --     walk-hop, -falls, firsts-hop, -falls   recursion and measure, as a function tells them that handles one descriptor
 --     allTwo                             a test at each entry of two lists
 --     sameList-is, lengthsFit-is         both comparisons are such tests
@@ -171,15 +171,6 @@ module _ (w : ℕ → ℕ) (firsts : List ℕ) (p : ℕ) where
   pub firsts-bad : goodPtr p ≡ false → firstsFrom w firsts p ≡ firsts
   unfolding firstStep
   firsts-bad g = firsts-eq ∙ simp g
-
-  module _ (g : goodPtr p ≡ true) where
-    pub firsts-met : eqb (getD firsts (wordOf p) 1) 0 ≡ false → firstsFrom w firsts p ≡ firsts
-    unfolding firstStep
-    firsts-met h = firsts-eq ∙ simp (g, h)
-
-    pub firsts-go : eqb (getD firsts (wordOf p) 1) 0 ≡ true → firstsFrom w firsts p ≡ firstsFrom w (set firsts (wordOf p) 1) (w (wordOf p))
-    unfolding firstStep
-    firsts-go h = firsts-eq ∙ simp (g, h)
 
   module _ {r : Hop} (v : List ℕ) (told : noted r v ≡ firstStep w (firsts, p)) where
     pub firsts-hop : (h : Hop) → r ≡ h → {o : List ℕ} → o ≡ after (noted h v) (λ s. firstsFrom w (s .0) (s .1)) → o ≡ firstsFrom w firsts p

@@ -9,10 +9,10 @@
 --     sumFault-end, sumFault-inside               17 is asked at EOP alone, of the packet's SOP word and sum
 --     endFault-sum, endFault-pass                 and is not given exactly when the two agree
 --     behind-end, behind-inside, sideAt-behind    what stands behind a descriptor of a packet; a chain keeps its side
---     nextFault-more, -start, -buffer, -middle    where a chain may end
---     lengthOf-lt, firstByte-lt                   bounds of the fields
-use Prim.Native.Nat.{ℕ, zero, suc, _+_, _≤_, _<_, _^_}
-use mathlib.Core.Path.{_≡_, refl, ap, _∙_, sym}
+--     nextFault-more, -start, -middle             where a chain may end
+--     lengthOf-lt                                 a bound of the field
+use Prim.Native.Nat.{ℕ, zero, suc, _+_, _≤_, _<_}
+use mathlib.Core.Path.{_≡_, refl}
 use mathlib.Core.Logic.{_≢_}
 use mathlib.Core.Bool.{Bool, true, false, not}
 use native.Mathlib.Omega.{arith}
@@ -34,9 +34,6 @@ end-flags : (x3 : ℕ) → endFlagsFault x3 ≡ 0 → (eoq x3 ≡ false) × (td 
 end-flags x3 e =
     let a = shun 13 (eoq x3) _ e in
     (a .0, shun 13 (td x3) _ (a .1) .0)
-
-end-flags-pass : (x3 : ℕ) → eoq x3 ≡ false → td x3 ≡ false → endFlagsFault x3 ≡ 0
-end-flags-pass x3 p q = simp (p, q)
 
 pub flagsFault-start : (x3 : ℕ) → flagsFault Start x3 ≡ 0 → (sop x3 ≡ true) × (owner x3 ≡ true) × (eoq x3 ≡ false) × (td x3 ≡ false)
 unfolding flagsFault
@@ -81,15 +78,6 @@ pub lengthOf-lt : (side : Side) (x2 : ℕ) → lengthOf side x2 < 65536
 unfolding lengthOf
 lengthOf-lt Transmit x2 = omega arith
 lengthOf-lt Receive x2 = omega arith
-
-pub firstByte-lt : (side : Side) (x1 x2 x3 : ℕ) → x1 < 2 ^ 32 → x2 < 2 ^ 32 → firstByte side x1 x2 x3 < 2 ^ 33
-unfolding firstByte offsetOf
-firstByte-lt Transmit x1 x2 x3 h g = at (sop x3)
-  where
-    at : (b : Bool) → pick b (x1 + offsetOf Transmit x2) x1 < 2 ^ 33
-    at true = omega arith
-    at false = omega arith
-firstByte-lt Receive x1 x2 x3 h g = omega arith
 
 -- the three tests of 15, in a row
 length-tests : (side : Side) (x1 x2 x3 : ℕ) → lengthFault side x1 x2 x3 ≡ 0
@@ -175,10 +163,6 @@ nextFault-more pl x0 n = simp (ne-eqb x0 0 n)
 pub nextFault-start : (x0 : ℕ) → nextFault Start x0 ≡ 0
 unfolding nextFault
 nextFault-start x0 = pick-same (eqb x0 0) 0
-
-pub nextFault-buffer : (x0 : ℕ) → nextFault Buffer x0 ≡ 0
-unfolding nextFault
-nextFault-buffer x0 = pick-same (eqb x0 0) 0
 
 pub nextFault-middle : (s n x0 : ℕ) → nextFault (Middle s n) x0 ≡ 0 → x0 ≢ 0
 unfolding nextFault

@@ -20,10 +20,6 @@ use Rattle.marks.proofs.LengthLaws.{setBit-mod, clearBit-mod, putLength
 
 -- ---- eoqMark
 
-pub sop-eoqMark : (x : ℕ) → sop (eoqMark x) ≡ sop x
-unfolding sop
-sop-eoqMark x = bit-setBit-other 31 28 x (eqb-false 31 28 refl)
-
 pub eop-eoqMark : (x : ℕ) → eop (eoqMark x) ≡ eop x
 unfolding eop
 eop-eoqMark x = bit-setBit-other 30 28 x (eqb-false 30 28 refl)
@@ -40,18 +36,10 @@ pub td-eoqMark : (x : ℕ) → td (eoqMark x) ≡ td x
 unfolding td
 td-eoqMark x = bit-setBit-other 27 28 x (eqb-false 27 28 refl)
 
-pub packetLength-eoqMark : (x : ℕ) → packetLength (eoqMark x) ≡ packetLength x
-unfolding packetLength
-packetLength-eoqMark x = setBit-mod 28 131072 x refl
-
 pub eoqMark-lt : (x : ℕ) → x < 2 ^ 32 → eoqMark x < 2 ^ 32
 eoqMark-lt x h = setBit-lt 32 28 x (lit< tt) h
 
 -- ---- ownerMark
-
-pub sop-ownerMark : (x : ℕ) → sop (ownerMark x) ≡ sop x
-unfolding sop
-sop-ownerMark x = bit-clearBit-other 31 29 x (eqb-false 31 29 refl)
 
 pub eop-ownerMark : (x : ℕ) → eop (ownerMark x) ≡ eop x
 unfolding eop
@@ -69,38 +57,14 @@ pub td-ownerMark : (x : ℕ) → td (ownerMark x) ≡ td x
 unfolding td
 td-ownerMark x = bit-clearBit-other 27 29 x (eqb-false 27 29 refl)
 
-pub packetLength-ownerMark : (x : ℕ) → packetLength (ownerMark x) ≡ packetLength x
-unfolding packetLength
-packetLength-ownerMark x = clearBit-mod 29 262144 x refl
-
 pub ownerMark-lt : (x : ℕ) → x < 2 ^ 32 → ownerMark x < 2 ^ 32
 ownerMark-lt x h = clearBit-lt 32 29 x h
 
 -- ---- tdMark
 
-pub sop-tdMark : (x : ℕ) → sop (tdMark x) ≡ sop x
-unfolding sop
-sop-tdMark x = bit-setBit-other 31 27 x (eqb-false 31 27 refl)
-
-pub eop-tdMark : (x : ℕ) → eop (tdMark x) ≡ eop x
-unfolding eop
-eop-tdMark x = bit-setBit-other 30 27 x (eqb-false 30 27 refl)
-
-pub owner-tdMark : (x : ℕ) → owner (tdMark x) ≡ owner x
-unfolding owner
-owner-tdMark x = bit-setBit-other 29 27 x (eqb-false 29 27 refl)
-
-pub eoq-tdMark : (x : ℕ) → eoq (tdMark x) ≡ eoq x
-unfolding eoq
-eoq-tdMark x = bit-setBit-other 28 27 x (eqb-false 28 27 refl)
-
 pub td-tdMark : (x : ℕ) → td (tdMark x) ≡ true
 unfolding td
 td-tdMark x = bit-setBit-same 27 x
-
-pub packetLength-tdMark : (x : ℕ) → packetLength (tdMark x) ≡ packetLength x
-unfolding packetLength
-packetLength-tdMark x = setBit-mod 27 65536 x refl
 
 pub tdMark-lt : (x : ℕ) → x < 2 ^ 32 → tdMark x < 2 ^ 32
 tdMark-lt x h = setBit-lt 32 27 x (lit< tt) h
@@ -119,10 +83,6 @@ last-other : (j latched x : ℕ) → j ≢ 28 → j ≢ 30 → bit j (lastMark l
 last-other j latched x p q =
     let one = bit-setBit-other j 30 x q in
     last-case (λ y. bit j y ≡ bit j x) latched x (bit-setBit-other j 28 (setBit 30 x) p ∙ one) one
-
-pub sop-lastMark : (latched x : ℕ) → sop (lastMark latched x) ≡ sop x
-unfolding sop
-sop-lastMark latched x = last-other 31 latched x (eqb-false 31 28 refl) (eqb-false 31 30 refl)
 
 pub owner-lastMark : (latched x : ℕ) → owner (lastMark latched x) ≡ owner x
 unfolding owner

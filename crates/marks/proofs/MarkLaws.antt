@@ -1,9 +1,9 @@
 -- What a mark leaves of descriptor memory, word by word. Assumes nothing.
 --     word-marked-same, -other          the word that is marked; any other word
 --     length-marked, marked-keeps-bytes the memory's length, and that it is made of bytes
---     word-lastMarked-length, -flags, -other, length-lastMarked, lastMarked-keeps-bytes   the same where two words are marked
+--     word-lastMarked-length, -flags, length-lastMarked, lastMarked-keeps-bytes   the same where two words are marked
 use Prim.Native.Nat.{ℕ, _+_, _≤_, _<_, _^_}
-use mathlib.Core.Path.{_≡_, refl, ap, _∙_, sym}
+use mathlib.Core.Path.{_≡_, ap, _∙_}
 use mathlib.Core.Logic.{_≢_}
 use mathlib.Core.List.{List}
 use native.Mathlib.Omega.{arith}
@@ -43,11 +43,6 @@ module _ (here latched d : ℕ) (m : List ℕ) where
   pub length-lastMarked : length (lastMarked here latched d m) ≡ length m
   unfolding lastMarked
   length-lastMarked = length-marked (lastMark latched) d _ ∙ length-put m (d + 2) (putLength here (word m (d + 2)))
-
-  pub word-lastMarked-other : (k : ℕ) → k ≢ d + 2 → k ≢ d + 3 → word (lastMarked here latched d m) k ≡ word m k
-  unfolding lastMarked
-  word-lastMarked-other k p q =
-      word-marked-other (lastMark latched) d _ k q ∙ word-put-other m (d + 2) (putLength here (word m (d + 2))) k p
 
   pub word-lastMarked-length : length m ≡ 8192 → d ≤ 2044 → here < 2048 → Bytes m
       → word (lastMarked here latched d m) (d + 2) ≡ putLength here (word m (d + 2))

@@ -2,7 +2,7 @@
 --     byClass-head .. -unguarded    the choice by class number at each range of numbers; -low and -mid are the gaps between ranges
 --     byClass-rest                  past the reset nothing but what the four last choices share
 --     fault-hdp .. fault-offset     the number of a write at each class number that is judged
---     written-hdp .. written-rest   the table after such a write
+--     written-teardown .. written-rest   the table after such a write
 --     headWritten-zero, headWritten-set, ackWritten-zero, -same, -other   the cases of a write to HDP and to CP
 --     tearQueue-named, tearQueue-lt the queue that a teardown names
 --     headFault-zero, ackFault-zero, headFault-none, teardownFault-none, resetFault-none, zeroFault-none   what no fault tells
@@ -171,17 +171,6 @@ module _ (t : List ℕ) (v : ℕ) where
   pub fault-offset : registerFault t offsetClass v ≡ zeroFault v
   unfolding registerFault
   fault-offset = byClass-zero offsetClass _ _ _ _ _ _ _ _ (omega arith) (omega arith)
-
-  pub written-hdp : (q : ℕ) → q < queues → written t (hdpClass + q) v ≡ headWritten t q v
-  unfolding written
-  written-hdp q h =
-      byClass-head (hdpClass + q) _ _ _ _ _ _ _ _ (omega arith) ∙ ap (λ (k : ℕ). headWritten t k v) (add-sub-cancel-left hdpClass q)
-
-  pub written-cp : (q : ℕ) → q < queues → written t (cpClass + q) v ≡ ackWritten t q v
-  unfolding written
-  written-cp q h =
-      byClass-ack (cpClass + q) _ _ _ _ _ _ _ _ (omega arith) (omega arith)
-      ∙ ap (λ (k : ℕ). ackWritten t k v) (add-sub-cancel-left cpClass q)
 
   pub written-teardown : (side : ℕ) → side < 2 → written t (teardownClass + side) v ≡ setTearing (tearQueue side v) t
   unfolding written

@@ -5,15 +5,13 @@
 -- (setMark is a setMarks, setTearing and clearTearing are a setTearings: the laws of those hold of these as they stand.)
 --     awaiting-all, all-awaiting     nothing is awaited exactly when every mark is set
 --     awaiting-bit, bits-awaiting    the same, mark by mark
---     anyTearing-zero, anyTearing-none, none-anyTearing   no teardown is pending exactly when none is for a queue
+--     anyTearing-zero, anyTearing-none   no teardown is pending: then none is for a queue
 --     clearBit-none                  no bit of 0 is cleared
 --     flagsFit-bounds, bounds-flagsFit   a table that holds flags, in numbers
 --     flagsFit-CHANGE                each change keeps that
 --     isDevice-head, -register       a head is not the device's, an HDP or a CP is
 --     getD-loaded                    word by word: the device's registers are of one table, all else of the other
 --     READER-loaded                  so each part is
---     loaded-own, loaded-loaded, loaded-same   loading the own registers, loading twice, loading the same registers
---     loaded-keeps, -hides, -shows, -skips   a store before the loading, in either table
 use Prim.Native.Nat.{ℕ, zero, suc, _+_, _-_, _/_, _%_, _^_, _≤_, _<_, min}
 use mathlib.Core.Path.{_≡_, refl, ap, _∙_, sym}
 use mathlib.Core.Logic.{_≢_}
@@ -23,12 +21,12 @@ use native.Mathlib.Nat.{zero-div, zero-add, add-zero}
 use native.Mathlib.Omega.{arith}
 use lib.Dec.{eqb, ltb}
 use lib.ListN.{length, getD, set, take, drop, length-set, length-take, List·getD-eq-default}
-use lib.Seq.{getD-set-same, getD-set-other, take-set-le, take-set-lt, drop-set-lt, drop-set-add, getD-take, getD-drop, ext-getD}
-use borrow.Author.Tests.{eq-eqb, ne-eqb, lt-ltb, le-leb, lt-leb, eqb-true, eqb-false, ltb-true, ltb-false, leb-true, not-false}
+use lib.Seq.{getD-set-same, getD-set-other, take-set-le, take-set-lt, drop-set-add, getD-take, getD-drop, ext-getD}
+use borrow.Author.Tests.{eq-eqb, ne-eqb, lt-ltb, le-leb, lt-leb, eqb-true, ltb-true, ltb-false, leb-true, not-false}
 use Rattle.layout.specs.Choice.{pick}
 use Rattle.layout.specs.Bits.{bit, clearBit}
 use Rattle.layout.specs.Layout.{queues, marks}
-use Rattle.layout.proofs.ChoiceLaws.{both-left, both-right, pick-same, clash}
+use Rattle.layout.proofs.ChoiceLaws.{both-left, both-right, clash}
 use Rattle.layout.proofs.BitLaws.{bit-zero, bit-suc, bit-setBit-same, bit-setBit-other, bit-clearBit-same, bit-clearBit-other, clear-case, setBit-lt, clearBit-lt, bits-same}
 use Rattle.registers.specs.Table.{stateWords, hdpAt, cpAt, marksAt, tearingAt, resetAt, bitAt, headOf, hdpOf, cpOf, marksOf, tearingsOf, tearingOf, allMarks, awaiting, anyTearing, resetOf, bitOf, setHead, setHdp, setCp, setMarks, setMark, setTearings, setTearing, clearTearing, setReset, setResetBit, unmarked, headsOf, cpsOf, flagsFit, isDevice, loadedFrom, loaded}
 
@@ -52,10 +50,6 @@ awaiting-set t k v h = ap (λ (m : ℕ). not (eqb m allMarks)) (other t k v mark
 
 tearingOf-set : (t : List ℕ) (k v j : ℕ) → tearingAt ≢ k → tearingOf (set t k v) j ≡ tearingOf t j
 tearingOf-set t k v j h = ap (bit j) (other t k v tearingAt h)
-
-anyTearing-set : (t : List ℕ) (k v : ℕ) → tearingAt ≢ k → anyTearing (set t k v) ≡ anyTearing t
-unfolding anyTearing
-anyTearing-set t k v h = ap (λ (m : ℕ). not (eqb m 0)) (other t k v tearingAt h)
 
 resetOf-set : (t : List ℕ) (k v : ℕ) → resetAt ≢ k → resetOf (set t k v) ≡ resetOf t
 unfolding resetOf
@@ -95,32 +89,14 @@ module _ (t : List ℕ) (q p : ℕ) where
   pub hdpOf-setHead : (j : ℕ) → q < queues → hdpOf (setHead q p t) j ≡ hdpOf t j
   hdpOf-setHead j h = other t q p (hdpAt j) (λ e. omega arith)
 
-  pub cpOf-setHead : (j : ℕ) → q < queues → cpOf (setHead q p t) j ≡ cpOf t j
-  cpOf-setHead j h = other t q p (cpAt j) (λ e. omega arith)
-
-  pub cpsOf-setHead : q < queues → cpsOf (setHead q p t) ≡ cpsOf t
-  cpsOf-setHead h = ap (take queues) (drop-set-lt (cpAt 0) t q p (omega arith))
-
   pub marksOf-setHead : q < queues → marksOf (setHead q p t) ≡ marksOf t
   marksOf-setHead h = other t q p marksAt (λ e. omega arith)
-
-  pub awaiting-setHead : q < queues → awaiting (setHead q p t) ≡ awaiting t
-  awaiting-setHead h = awaiting-set t q p (λ e. omega arith)
 
   pub tearingsOf-setHead : q < queues → tearingsOf (setHead q p t) ≡ tearingsOf t
   tearingsOf-setHead h = other t q p tearingAt (λ e. omega arith)
 
-  pub tearingOf-setHead : (j : ℕ) → q < queues → tearingOf (setHead q p t) j ≡ tearingOf t j
-  tearingOf-setHead j h = tearingOf-set t q p j (λ e. omega arith)
-
-  pub anyTearing-setHead : q < queues → anyTearing (setHead q p t) ≡ anyTearing t
-  anyTearing-setHead h = anyTearing-set t q p (λ e. omega arith)
-
   pub resetOf-setHead : q < queues → resetOf (setHead q p t) ≡ resetOf t
   resetOf-setHead h = resetOf-set t q p (λ e. omega arith)
-
-  pub bitOf-setHead : q < queues → bitOf (setHead q p t) ≡ bitOf t
-  bitOf-setHead h = bitOf-set t q p (λ e. omega arith)
 
 -- ---- HDP of queue q is set
 
@@ -143,9 +119,6 @@ module _ (t : List ℕ) (q v : ℕ) where
   pub cpOf-setHdp : (j : ℕ) → q < queues → cpOf (setHdp q v t) j ≡ cpOf t j
   cpOf-setHdp j h = other t (hdpAt q) v (cpAt j) (λ e. omega arith)
 
-  pub cpsOf-setHdp : q < queues → cpsOf (setHdp q v t) ≡ cpsOf t
-  cpsOf-setHdp h = ap (take queues) (drop-set-lt (cpAt 0) t (hdpAt q) v (omega arith))
-
   pub marksOf-setHdp : q < queues → marksOf (setHdp q v t) ≡ marksOf t
   marksOf-setHdp h = other t (hdpAt q) v marksAt (λ e. omega arith)
 
@@ -157,9 +130,6 @@ module _ (t : List ℕ) (q v : ℕ) where
 
   pub tearingOf-setHdp : (j : ℕ) → q < queues → tearingOf (setHdp q v t) j ≡ tearingOf t j
   tearingOf-setHdp j h = tearingOf-set t (hdpAt q) v j (λ e. omega arith)
-
-  pub anyTearing-setHdp : q < queues → anyTearing (setHdp q v t) ≡ anyTearing t
-  anyTearing-setHdp h = anyTearing-set t (hdpAt q) v (λ e. omega arith)
 
   pub resetOf-setHdp : q < queues → resetOf (setHdp q v t) ≡ resetOf t
   resetOf-setHdp h = resetOf-set t (hdpAt q) v (λ e. omega arith)
@@ -178,9 +148,6 @@ module _ (t : List ℕ) (q v : ℕ) where
 
   pub cpOf-setCp-other : (j : ℕ) → j ≢ q → cpOf (setCp q v t) j ≡ cpOf t j
   cpOf-setCp-other j n = other t (cpAt q) v (cpAt j) (λ e. n (omega arith))
-
-  pub cpsOf-setCp : q < queues → cpsOf (setCp q v t) ≡ set (cpsOf t) q v
-  cpsOf-setCp h = ap (take queues) (drop-set-add (cpAt 0) t q v) ∙ take-set-lt queues (drop (cpAt 0) t) q v h
 
   pub headOf-setCp : (j : ℕ) → j < queues → headOf (setCp q v t) j ≡ headOf t j
   headOf-setCp j h = other t (cpAt q) v j (λ e. omega arith)
@@ -202,9 +169,6 @@ module _ (t : List ℕ) (q v : ℕ) where
 
   pub tearingOf-setCp : (j : ℕ) → q < queues → tearingOf (setCp q v t) j ≡ tearingOf t j
   tearingOf-setCp j h = tearingOf-set t (cpAt q) v j (λ e. omega arith)
-
-  pub anyTearing-setCp : q < queues → anyTearing (setCp q v t) ≡ anyTearing t
-  anyTearing-setCp h = anyTearing-set t (cpAt q) v (λ e. omega arith)
 
   pub resetOf-setCp : q < queues → resetOf (setCp q v t) ≡ resetOf t
   resetOf-setCp h = resetOf-set t (cpAt q) v (λ e. omega arith)
@@ -241,9 +205,6 @@ module _ (t : List ℕ) (m : ℕ) where
 
   pub tearingOf-setMarks : (j : ℕ) → tearingOf (setMarks m t) j ≡ tearingOf t j
   tearingOf-setMarks j = tearingOf-set t marksAt m j (λ e. omega arith)
-
-  pub anyTearing-setMarks : anyTearing (setMarks m t) ≡ anyTearing t
-  anyTearing-setMarks = anyTearing-set t marksAt m (λ e. omega arith)
 
   pub resetOf-setMarks : resetOf (setMarks m t) ≡ resetOf t
   resetOf-setMarks = resetOf-set t marksAt m (λ e. omega arith)
@@ -339,9 +300,6 @@ module _ (t : List ℕ) (n : ℕ) where
   pub tearingOf-setReset : (j : ℕ) → tearingOf (setReset n t) j ≡ tearingOf t j
   tearingOf-setReset j = tearingOf-set t resetAt n j (λ e. omega arith)
 
-  pub anyTearing-setReset : anyTearing (setReset n t) ≡ anyTearing t
-  anyTearing-setReset = anyTearing-set t resetAt n (λ e. omega arith)
-
   pub bitOf-setReset : bitOf (setReset n t) ≡ bitOf t
   bitOf-setReset = bitOf-set t resetAt n (λ e. omega arith)
 
@@ -367,23 +325,14 @@ module _ (t : List ℕ) (n : ℕ) where
   pub cpOf-setResetBit : (j : ℕ) → j < queues → cpOf (setResetBit n t) j ≡ cpOf t j
   cpOf-setResetBit j h = other t bitAt n (cpAt j) (λ e. omega arith)
 
-  pub cpsOf-setResetBit : cpsOf (setResetBit n t) ≡ cpsOf t
-  cpsOf-setResetBit = cpsOf-past t (queues + 3) n (omega arith)
-
   pub marksOf-setResetBit : marksOf (setResetBit n t) ≡ marksOf t
   marksOf-setResetBit = other t bitAt n marksAt (λ e. omega arith)
 
   pub awaiting-setResetBit : awaiting (setResetBit n t) ≡ awaiting t
   awaiting-setResetBit = awaiting-set t bitAt n (λ e. omega arith)
 
-  pub tearingsOf-setResetBit : tearingsOf (setResetBit n t) ≡ tearingsOf t
-  tearingsOf-setResetBit = other t bitAt n tearingAt (λ e. omega arith)
-
   pub tearingOf-setResetBit : (j : ℕ) → tearingOf (setResetBit n t) j ≡ tearingOf t j
   tearingOf-setResetBit j = tearingOf-set t bitAt n j (λ e. omega arith)
-
-  pub anyTearing-setResetBit : anyTearing (setResetBit n t) ≡ anyTearing t
-  anyTearing-setResetBit = anyTearing-set t bitAt n (λ e. omega arith)
 
   pub resetOf-setResetBit : resetOf (setResetBit n t) ≡ resetOf t
   resetOf-setResetBit = resetOf-set t bitAt n (λ e. omega arith)
@@ -404,9 +353,6 @@ module _ (t : List ℕ) where
   pub resetOf-unmarked : length t ≡ stateWords → resetOf (unmarked t) ≡ false
   resetOf-unmarked l = resetOf-setReset (setMarks 0 t) 0 (length-setMarks t 0 ∙ l)
 
-  pub headOf-unmarked : (j : ℕ) → j < queues → headOf (unmarked t) j ≡ headOf t j
-  headOf-unmarked j h = headOf-setReset (setMarks 0 t) 0 j h ∙ headOf-setMarks t 0 j h
-
   pub headsOf-unmarked : headsOf (unmarked t) ≡ headsOf t
   headsOf-unmarked = headsOf-setReset (setMarks 0 t) 0 ∙ headsOf-setMarks t 0
 
@@ -424,12 +370,6 @@ module _ (t : List ℕ) where
 
   pub tearingOf-unmarked : (j : ℕ) → tearingOf (unmarked t) j ≡ tearingOf t j
   tearingOf-unmarked j = tearingOf-setReset (setMarks 0 t) 0 j ∙ tearingOf-setMarks t 0 j
-
-  pub anyTearing-unmarked : anyTearing (unmarked t) ≡ anyTearing t
-  anyTearing-unmarked = anyTearing-setReset (setMarks 0 t) 0 ∙ anyTearing-setMarks t 0
-
-  pub bitOf-unmarked : bitOf (unmarked t) ≡ bitOf t
-  bitOf-unmarked = bitOf-setReset (setMarks 0 t) 0 ∙ bitOf-setMarks t 0
 
 -- ---- what is awaited, and what is pending
 
@@ -472,11 +412,6 @@ anyTearing-zero t e = eqb-true (tearingsOf t) 0 (not-false _ e)
 
 pub anyTearing-none : (t : List ℕ) (q : ℕ) → anyTearing t ≡ false → tearingOf t q ≡ false
 anyTearing-none t q e = ap (bit q) (anyTearing-zero t e) ∙ bit-none q
-
-pub none-anyTearing : (t : List ℕ) → tearingsOf t < 2 ^ queues → ((q : ℕ) → q < queues → tearingOf t q ≡ false) → anyTearing t ≡ false
-unfolding anyTearing
-none-anyTearing t b f =
-    ap not (eq-eqb (tearingsOf t) 0 (bits-same queues (tearingsOf t) 0 b (omega arith) (λ k h. f k h ∙ sym (bit-none k))))
 
 -- ---- a table that holds flags
 
@@ -602,19 +537,11 @@ module _ (c b : List ℕ) where
   pub marksOf-loaded : marksOf (loaded c b) ≡ marksOf b
   marksOf-loaded = of-book marksAt refl
 
-  pub awaiting-loaded : awaiting (loaded c b) ≡ awaiting b
-  unfolding awaiting
-  awaiting-loaded = ap (λ (m : ℕ). not (eqb m allMarks)) marksOf-loaded
-
   pub tearingsOf-loaded : tearingsOf (loaded c b) ≡ tearingsOf b
   tearingsOf-loaded = of-book tearingAt refl
 
   pub tearingOf-loaded : (q : ℕ) → tearingOf (loaded c b) q ≡ tearingOf b q
   tearingOf-loaded q = ap (bit q) tearingsOf-loaded
-
-  pub anyTearing-loaded : anyTearing (loaded c b) ≡ anyTearing b
-  unfolding anyTearing
-  anyTearing-loaded = ap (λ (m : ℕ). not (eqb m 0)) tearingsOf-loaded
 
   pub resetOf-loaded : resetOf (loaded c b) ≡ resetOf b
   unfolding resetOf
@@ -633,91 +560,3 @@ module _ (c b : List ℕ) where
   pub bitOf-loaded : length b ≡ stateWords → bitOf (loaded c b) ≡ bitOf c
   unfolding bitOf
   bitOf-loaded l = ap (bit 0) (of-device bitAt refl (omega arith))
-
--- ---- loading again
-
-pub loaded-own : (t : List ℕ) → loaded t t ≡ t
-loaded-own t =
-    ext-getD 0 (loaded t t) t (length-loaded t t)
-    (λ k h. getD-loaded t t k (omega (arith, length-loaded t t)) ∙ pick-same (isDevice k) (getD t k 0))
-
--- what was loaded before makes no difference
-twice-from : (k : ℕ) (c d b : List ℕ) → loadedFrom k c (loadedFrom k d b) ≡ loadedFrom k c b
-twice-from k c d [] = refl
-twice-from k c d (x ∷ b) = over (isDevice k) (twice-from (k + 1) c d b)
-  where
-    over : (t : Bool) → loadedFrom (k + 1) c (loadedFrom (k + 1) d b) ≡ loadedFrom (k + 1) c b
-        → pick t (getD c k 0) (pick t (getD d k 0) x) ∷ loadedFrom (k + 1) c (loadedFrom (k + 1) d b)
-        ≡ pick t (getD c k 0) x ∷ loadedFrom (k + 1) c b
-    over true e = ap (λ (r : List ℕ). getD c k 0 ∷ r) e
-    over false e = ap (λ (r : List ℕ). x ∷ r) e
-
-pub loaded-loaded : (c d b : List ℕ) → loaded c (loaded d b) ≡ loaded c b
-unfolding loaded
-loaded-loaded c d b = twice-from 0 c d b
-
--- ---- a store before the loading
-
--- the first place, and the next
-first : (n : ℕ) (t : Bool) → isDevice (n + 0) ≡ t → isDevice n ≡ t
-first n t d = ap isDevice (sym (add-zero n)) ∙ d
-
-next : (n k : ℕ) (t : Bool) → isDevice (n + suc k) ≡ t → isDevice (n + 1 + k) ≡ t
-next n k t d = let e : n + 1 + k ≡ n + suc k = omega arith in ap isDevice e ∙ d
-
--- into the book's table: a store to the book's own part stays, one to a register is loaded over
-keeps-from : (n : ℕ) (c b : List ℕ) (k v : ℕ) → isDevice (n + k) ≡ false → loadedFrom n c (set b k v) ≡ set (loadedFrom n c b) k v
-keeps-from n c [] k v d = refl
-keeps-from n c (x ∷ b) zero v d = ap (λ (t : Bool). pick t (getD c n 0) v ∷ loadedFrom (n + 1) c b) (first n false d)
-keeps-from n c (x ∷ b) (suc k) v d = ap (λ (r : List ℕ). pick (isDevice n) (getD c n 0) x ∷ r) (keeps-from (n + 1) c b k v (next n k false d))
-
-pub loaded-keeps : (c b : List ℕ) (k v : ℕ) → isDevice k ≡ false → loaded c (set b k v) ≡ set (loaded c b) k v
-unfolding loaded
-loaded-keeps c b k v d = keeps-from 0 c b k v (ap isDevice (zero-add k) ∙ d)
-
-hides-from : (n : ℕ) (c b : List ℕ) (k v : ℕ) → isDevice (n + k) ≡ true → loadedFrom n c (set b k v) ≡ loadedFrom n c b
-hides-from n c [] k v d = refl
-hides-from n c (x ∷ b) zero v d = rw (first n true d)
-hides-from n c (x ∷ b) (suc k) v d = ap (λ (r : List ℕ). pick (isDevice n) (getD c n 0) x ∷ r) (hides-from (n + 1) c b k v (next n k true d))
-
-pub loaded-hides : (c b : List ℕ) (k v : ℕ) → isDevice k ≡ true → loaded c (set b k v) ≡ loaded c b
-unfolding loaded
-loaded-hides c b k v d = hides-from 0 c b k v (ap isDevice (zero-add k) ∙ d)
-
--- tables with the same registers load the same
-same-from : (n : ℕ) (c d b : List ℕ) → ((k : ℕ) → isDevice k ≡ true → getD c k 0 ≡ getD d k 0) → loadedFrom n c b ≡ loadedFrom n d b
-same-from n c d [] f = refl
-same-from n c d (x ∷ b) f = at (isDevice n) refl (same-from (n + 1) c d b f)
-  where
-    at : (t : Bool) → isDevice n ≡ t → loadedFrom (n + 1) c b ≡ loadedFrom (n + 1) d b
-        → pick t (getD c n 0) x ∷ loadedFrom (n + 1) c b ≡ pick t (getD d n 0) x ∷ loadedFrom (n + 1) d b
-    at true e g = rw (f n e, g)
-    at false e g = rw g
-
-pub loaded-same : (c d b : List ℕ) → ((k : ℕ) → isDevice k ≡ true → getD c k 0 ≡ getD d k 0) → loaded c b ≡ loaded d b
-unfolding loaded
-loaded-same c d b f = same-from 0 c d b f
-
--- into the device's table: a store to a register shows, any other is not read
-module _ (c b : List ℕ) (k v : ℕ) where
-  pub loaded-skips : isDevice k ≡ false → loaded (set c k v) b ≡ loaded c b
-  loaded-skips d = loaded-same (set c k v) c b (λ j g. other c k v j (λ e. clash g (ap isDevice e ∙ d)))
-
-  pub loaded-shows : k < length c → isDevice k ≡ true → loaded (set c k v) b ≡ set (loaded c b) k v
-  loaded-shows l d =
-      ext-getD 0 (loaded (set c k v) b) (set (loaded c b) k v)
-      (length-loaded (set c k v) b ∙ sym (length-set (loaded c b) k v ∙ length-loaded c b))
-      (λ j h. at j (omega (arith, length-loaded (set c k v) b)) (eqb j k) refl)
-    where
-      at : (j : ℕ) → j < length b → (t : Bool) → eqb j k ≡ t → getD (loaded (set c k v) b) j 0 ≡ getD (set (loaded c b) k v) j 0
-      at j h true e =
-          let i : j ≡ k = eqb-true j k e in
-          of-device (set c k v) b j (ap isDevice i ∙ d) h
-          ∙ ap (λ (n : ℕ). getD (set c k v) n 0) i
-          ∙ same c k v l
-          ∙ sym (ap (λ (n : ℕ). getD (set (loaded c b) k v) n 0) i ∙ same (loaded c b) k v (omega (arith, length-loaded c b)))
-      at j h false e =
-          let n = eqb-false j k e in
-          getD-loaded (set c k v) b j h
-          ∙ ap (λ (x : ℕ). pick (isDevice j) x (getD b j 0)) (other c k v j n)
-          ∙ sym (other (loaded c b) k v j n ∙ getD-loaded c b j h)
