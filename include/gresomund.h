@@ -15,8 +15,7 @@
  *
  * WHAT TO LEND. No pointer may be null, except those of `mem` and `kinds` with length 0 (answered 1); arrays must not overlap.
  *   mem, mem_len     a copy of descriptor memory in plain memory, 8,192 bytes, aligned to 4. Never the device's own: the call makes an accepted
- *                    store in `mem` by itself, in bytes, and the device must see one word. Before each call the copy is what the device has
- *                    now: since the last call only words in use (below) can have changed there, so it is enough to read those again.
+ *                    store in `mem` by itself, in bytes, and the device must see one word. Before each call it is brought up to date.
  *   kinds, blocks    one byte for each 4 KiB block of RAM from 0x80000000: 0 not Linux's, 1 Linux data, 2 Linux executable, 3 first-level
  *                    page table, 4 second-level page table. 1 to 16,384 of them. Only gresomund_kind_change may change it.
  *   state            the small state, below, which the guard reads and changes where it lies. The caller fills in the five registers before
@@ -30,8 +29,11 @@
  * done with were released from the book; after 0 the write is in the book.
  *
  * WHAT THE HANDLER DOES, in order:
- *   1. state.hdp, state.cp and state.bit are read from the device (TX0_HDP, RX0_HDP, TX0_CP, RX0_CP, CPDMA_SOFT_RESET), and `mem` is
- *      brought up to date.
+ *   1. state.hdp, state.cp and state.bit are read from the device (TX0_HDP, RX0_HDP, TX0_CP, RX0_CP, CPDMA_SOFT_RESET). Then `mem` is
+ *      brought up to date: the device changes words 3 and 2 of descriptors in a queue, and no other, so these are read again, from each
+ *      queue's head on (state.heads, and word 0 of the copy for the next). In this order: the controller marks a packet's last descriptor,
+ *      then its first, then changes CP and HDP, and whoever reads them the other way round misses no mark that an earlier reading speaks
+ *      of. (The proofs have the controller stand still during a call; on the board it goes on.)
  *   2. The call.
  *   3. By the number:
  *      0   exactly that store (address, value) is carried out on the device as one word: a register's and a descriptor's alike.
@@ -60,7 +62,7 @@
  *
  * WHAT IT NEEDS. The archive and the board's object need memcpy and memset, and nothing else. The board's object uses core registers alone:
  * no floating-point register is changed. A call takes fewer than GRESOMUND_STACK bytes of stack below its caller's frame, glibc's memcpy and
- * memset within, and no more for a longer chain than for one of two. tests/c reads these sentences off both; docs/PERFORMANCE.md has figures. */
+ * memset within, and no more for a longer chain than for one of two. tests/c holds these sentences; docs/PERFORMANCE.md has figures. */
 #ifndef GRESOMUND_H
 #define GRESOMUND_H
 

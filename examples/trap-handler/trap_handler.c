@@ -74,14 +74,19 @@ static void record_write(uint32_t address, uint32_t value, uint32_t answer);
 static void record_kind(uint32_t block, uint32_t kind, uint32_t answer);
 static void steps(unsigned n);
 
-/* The device as the guard may see it: descriptor memory and five registers. Words not in use change through `on_store` alone, and there the
- * guard has stored them in the copy: so only the words in use are read again. (Words of this machine and of the board are little-endian.) */
+/* The device as the guard may see it: five registers, and descriptor memory. The device changes words 3 and 2 of descriptors in a queue; all other
+ * words change through `on_store` alone, and there the guard has stored them in the copy. The order is the header's: the registers, then each
+ * queue from its head on. (Words of this machine and of the board are little-endian.) */
 static void look(void) {
-  for (unsigned i = 0; i < GRESOMUND_WORDS; i++)
-    if (used[i]) mem.words[i] = *device(GRESOMUND_MEM_FIRST + 4 * i);
   state.hdp[0] = *device(TX_HDP), state.hdp[1] = *device(RX_HDP);
   state.cp[0] = *device(TX_CP), state.cp[1] = *device(RX_CP);
   state.bit = *device(SOFT_RESET);
+  for (unsigned q = 0; q < GRESOMUND_QUEUES; q++) {
+    for (uint32_t d = state.heads[q], *w; d != 0; d = w[0]) {
+      w = &mem.words[(d - GRESOMUND_MEM_FIRST) / 4];
+      w[3] = *device(d + 12), w[2] = *device(d + 8);
+    }
+  }
 }
 
 /* The controller goes on. On the board nothing is to be done but to wait: until this HDP reads 0, or a moment has passed. */
