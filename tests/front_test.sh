@@ -114,5 +114,21 @@ for command in test speed "fuzz 1"; do
   check "$command has proved nothing before that" [ -z "$(grep -E '^rt:|proving' "$room/out" "$room/err")" ]
 done
 
+# the program's own exit status comes through: in a repository of the front door alone, whose bench is a shell
+mkdir -p "$room/other/crates" "$room/other/target/bin"
+cp "$door" "$room/other/gresomund"
+: >"$room/other/crates.txt"
+cp "$(readlink -f "$(command -v sh)")" "$room/other/target/bin/bench"
+door=$room/other/gresomund
+echo 'echo fine' >fine.sh
+printf 'echo some lines\nexit 7\n' >seven.sh
+run fine.sh bench
+if [ "$status" -eq 0 ] && [ "$(cat "$room/out")" = fine ]; then
+  run seven.sh bench
+  check "an exit status of the bench itself is kept" ends 7
+else
+  echo "skipped: the exit status of the bench itself, for want of a shell that the kit's loader runs"
+fi
+
 printf '%d passed, %d failed\n' "$passed" "$failed"
 [ "$failed" -eq 0 ]
