@@ -61,8 +61,9 @@
  * x86-64; tools/retarget makes the object for the board from the same module, and says what is not proved of it.
  *
  * WHAT IT NEEDS. The archive and the board's object need memcpy and memset, and nothing else. The board's object uses core registers alone:
- * no floating-point register is changed. A call takes fewer than GRESOMUND_STACK bytes of stack below its caller's frame, glibc's memcpy and
- * memset within, and no more for a longer chain than for one of two. tests/c holds these sentences; docs/PERFORMANCE.md has figures. */
+ * no floating-point register is changed, and it links with hypervisors of either floating-point convention. A call takes fewer than
+ * GRESOMUND_STACK bytes of stack below its caller's frame, glibc's memcpy and memset within, and no more for a longer chain than for one of
+ * two. tests/c holds these sentences; docs/PERFORMANCE.md has figures. */
 #ifndef GRESOMUND_H
 #define GRESOMUND_H
 

@@ -2,6 +2,7 @@
  *
  * build: ./gresomund lib, then
  *   cc -Iinclude examples/trap-handler/trap_handler.c target/lib/libgresomund.a -o trap_handler
+ * and for the board the same by an Arm compiler, with target/lib/gresomund-armv7.o.
  *
  * Linux's stores to the page of the DMA registers (0x4A100000..FFF) and to descriptor memory (0x4A102000..0x4A103FFF) trap, because the
  * hypervisor has those pages mapped read-only for Linux. The handler decodes the store to (address, value) and calls `on_store`. A change of
