@@ -186,6 +186,30 @@ static void traffic(void) {
   check("the head moved on", s.state.heads[0], at(1));
 }
 
+/* What the header has a handler do on 4 and on 10, over the whole page of the registers and both ends of descriptor memory. */
+static void handlers(void) {
+  uint32_t behind = 0, others = 0, wrong = 0, early = 0;
+  begin(&s, 4);
+  for (unsigned q = 0; q < GRESOMUND_QUEUES; q++) s.state.hdp[q] = at(0), s.state.cp[q] = GRESOMUND_TEARDOWN_DONE; /* busy, whoever asks */
+  for (uint32_t a = 0x4A100000; a < 0x4A101000; a += 4) {
+    uint32_t x = write_full(&s, a, a == TX_HDP || a == RX_HDP ? at(1) : 0);
+    int four = gresomund_number(x) == GRESOMUND_NOT_GUARDED;
+    behind += four && gresomund_is_behind(a);
+    others += four && !gresomund_is_behind(a);
+    wrong += !four && gresomund_is_behind(a); /* dropped on 4 only: what the guard judges is not behind */
+    early += (uint32_t)gresomund_is_early(a, x);
+    if (gresomund_number(x) == GRESOMUND_BUSY) check("10 is early at an HDP and nowhere else", (uint32_t)gresomund_is_early(a, x), a == TX_HDP || a == RX_HDP);
+  }
+  check("4, dropped: 0x4A100A80..BFF", behind, 0x180 / 4);
+  check("4, the handler's own: 0x4A100000..7FF, 900..9FF, C00..FFF", others, (0x800 + 0x100 + 0x400) / 4);
+  check("no judged address is behind", wrong, 0);
+  check("both HDPs are early", early, 2);
+  check("the first word behind", (uint32_t)(gresomund_is_behind(0x4A100A80) && !gresomund_is_behind(0x4A100A7C)), 1);
+  check("the last word behind", (uint32_t)(gresomund_is_behind(0x4A100BFC) && !gresomund_is_behind(0x4A100C00)), 1);
+  check("descriptor memory is not behind", (uint32_t)(gresomund_is_behind(GRESOMUND_MEM_FIRST) || gresomund_is_behind(0x4A103FFC)), 0);
+  check("another refusal is not early", (uint32_t)gresomund_is_early(TX_HDP, GRESOMUND_TEARDOWN_PENDING), 0);
+}
+
 static void fresh(void) {
   gresomund_fresh(&s.state, s.used, s.lens);
   struct scene zero;
@@ -220,7 +244,7 @@ static void entries(void) {
 }
 
 int main(void) {
-  layout(), unfit(), unsound(), ranks(), flags(), numbers(), traffic(), fresh(), entries();
+  layout(), unfit(), unsound(), ranks(), flags(), numbers(), traffic(), handlers(), fresh(), entries();
   printf("%d passed, %d failed\n", passed, failed);
   return failed != 0;
 }
