@@ -13,7 +13,7 @@ TOP = pathlib.Path(__file__).resolve().parent.parent
 CRATES = TOP / "crates"
 TOKEN = re.compile(r"[^\s(){}\[\],;]+")
 
-# a row: what is said, and where it is said: definitions of specs/, or contracts of public functions
+# a row: what is said, and where it is said: contracts of public functions (crate, function), or definitions (crate, file, name)
 ROWS = {
     "demand 2": (
         "a guest write and a kind change answer and leave exactly what the rules say",
@@ -189,19 +189,19 @@ def count(nodes):
     return sum(len(lines_of(n)) for n in nodes)
 
 
-def figures():
-    """For each row its sentence, its lines, and how many of them stand behind a guest write and a kind change."""
-    guard = behind([("guard", "Guard", "guestWrite"), ("kinds", "Kinds", "kindChange")])
-    out = {}
-    for name, (says, roots) in ROWS.items():
-        nodes = behind(roots)
-        out[name] = (says, count(nodes), count(nodes & guard))
-    return out
+def where(roots):
+    """The files in which a row's statement stands."""
+    return ", ".join(dict.fromkeys(f"{r[0]}/src" if len(r) == 2 else f"{r[0]}/specs/{r[1]}.antt" for r in roots))
 
 
 def table():
-    rows = ["| statement | says | lines | of them for guest write and kind change |", "|---|---|---|---|"]
-    return rows + [f"| {name} | {says} | {lines} | {guard} |" for name, (says, lines, guard) in figures().items()]
+    """For each row where it stands, what it says, its lines, and how many of them stand behind a guest write and a kind change."""
+    guard = behind([("guard", "Guard", "guestWrite"), ("kinds", "Kinds", "kindChange")])
+    rows = ["| statement | where | says | lines | of them for guest write and kind change |", "|---|---|---|---|---|"]
+    for name, (says, roots) in ROWS.items():
+        nodes = behind(roots)
+        rows.append(f"| {name} | {where(roots)} | {says} | {count(nodes)} | {count(nodes & guard)} |")
+    return rows
 
 
 if __name__ == "__main__":
