@@ -67,6 +67,7 @@ loaded-alike t c a =
 world-handed : (c : Controller) (m : List ℕ) (o : Outcome) (s : Machine) → Inv (withCtl c m (withWorld (o .world) s)) → m ≡ o .world .mem
     → Alike (o .world .state) (c .state) → Handed o (withCtl c m (withWorld (o .world) s))
 world-handed c m o s i e a = record {
+  state = refl;
   agrees = record { alike = a; here = i .sized .book .size; there = i .sized .ctl .size; defined = i .defined };
   seen = ap (λ (t : List ℕ). setState t (setMem m (o .world))) (loaded-alike (o .world .state) (c .state) a)
       ∙ ap (λ (x : List ℕ). setMem x (o .world)) e;

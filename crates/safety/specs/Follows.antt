@@ -3,8 +3,8 @@
 --     Alike t c            the tables t and c say the same of registers and flags, which is all but heads and spare words
 --     Agrees s c           the small state of the world s is alike the controller's table, and the controller is not undefined
 --     Carried x t          the controller answers 0, and leaves the memory of the world t, and a table alike its small state
---     Handed o s           what the outcome o hands back, the machine s has: what the guard would see of s now is o's world, to the last
---                          register and descriptor word, and its flags are the controller's
+--     Handed o s           what the outcome o hands back, the machine s has: its small state is o's, and registers and flags there are the
+--                          controller's; so the guard would see o's world again, to the last register and descriptor word
 --     Untouched s o        descriptor memory, kinds and registers are those of s, and the book is what the release makes of it
 --     Alone s t            t is s with nothing but its book released
 --     isOwned kinds i      block i is Linux's
@@ -76,6 +76,7 @@ pub record Carried (x : Moved) (t : World) : Type 0 where
   pub alike : Alike (t .state) (x .ctl .state)
 
 pub record Handed (o : Outcome) (s : Machine) : Type 0 where
+  pub state : s .state ≡ o .world .state
   pub agrees : Agrees (o .world) (s .ctl)
   pub seen : worldOf s ≡ o .world
 
