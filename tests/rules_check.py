@@ -15,8 +15,8 @@ import sys
 
 TOP = pathlib.Path(__file__).resolve().parent.parent
 PAGE = TOP / "docs" / "RULES.md"
-# crates whose specs/ say nothing of a rule: relations that only proofs speak of, and how a record or a state crosses a boundary
-THEORY = ("queue", "safety", "host", "api", "rig", "bench")
+# crates whose specs/ say nothing of a rule: statements that theorems are of, and how a record or a state crosses a boundary
+THEORY = ("queue", "safety", "host", "api", "rig", "bench", "cases", "beliefs")
 # the section whose rules are numbered as the answers are, from 0
 ANSWERS = 5
 COLUMNS = ("definition", "function", "theorem")
@@ -52,6 +52,8 @@ def is_there(column, name, file):
         return "" if stands(r"^ *(?:pub )?(?:extern \"C\" )?(?:fn|const|type|struct|enum) %s\b", parts[-1], file) else "is not in %s" % file
     if file.endswith(".rs"):
         return "" if stands(r"\"%s\"", name, file) or stands(r"^ *fn %s\b", name, file) else "is no case of %s" % file
+    if "/specs/" in file:  # one line of a statement that is proved as a whole
+        return "" if stands(r"^ +pub %s :", name, file) else "is no line of a statement of %s" % file
     if "/proofs/" not in file:
         return "%s is no file of proofs" % file
     return "" if stands(r"^ *(?:abbrev |unfoldable )?pub %s(?: \{[^}]*\})* :", name, file) else "is not stated in %s" % file

@@ -18,10 +18,7 @@ use registers::State;
 ghost use mathlib.Core.Path.{_≡_};
 ghost use mathlib.Core.Bool.{true, false};
 ghost use Prim.Native.Nat.{_+_, _*_, _≤_};
-ghost use lib.ListN.{replicate};
-ghost use Rattle.layout.specs.Layout.{descWords};
-ghost use Rattle.registers.specs.Table.{stateWords};
-ghost use Rattle.book.specs.World.{unfit, soundWorld};
+ghost use Rattle.book.specs.World.{unfit, soundWorld, freshState, freshUsed, freshLens};
 ghost use Rattle.guard.specs.Answers.{worldAt, numberOfSide};
 ghost use Rattle.guard.specs.Guard.{guestWrite};
 ghost use Rattle.kinds.specs.Kinds.{kindChange};
@@ -62,7 +59,7 @@ fn pack(a: Answer) -> u32
 // A fresh book and zero registers, as when the machine starts.
 #[no_mangle]
 pub extern "C" fn gresomund_fresh(state: &mut State, used: &mut Words, lens: &mut Lengths)
-    ensures { λ _. ⌜ (now (state .exit) ≡ replicate stateWords 0) × (now (used .exit) ≡ replicate descWords 0) × (now (lens .exit) ≡ replicate descWords 0) ⌝ }
+    ensures { λ _. ⌜ (now (state .exit) ≡ freshState) × (now (used .exit) ≡ freshUsed) × (now (lens .exit) ≡ freshLens) ⌝ }
 {
     *state = [0; STATE];
     *used = [0; DESC_WORDS];

@@ -1,18 +1,13 @@
 -- Four beliefs about the controller that are false, each refuted by operations from a fresh start. Every fact is computed, over
--- a full 8,192-byte memory and through whole guard calls. Assumes nothing.
+-- a full 8,192-byte memory and through whole guard calls. What is refuted is in specs/Beliefs.antt. Assumes nothing.
 --     no-empty-queue-idle      an empty queue does not mean an idle controller
 --     no-length-now            the length now in word 2 does not say what may still be stored
 --     no-append-always-sent    an append that is accepted is not always sent
 --     no-old-teardown-code     a CP of 0xFFFFFFFC does not mean that this teardown is done
---     times n e                n steps of engine e
-use Prim.Native.Nat.{ℕ, zero, suc, _+_}
-use lib.ListN.{getD}
-use mathlib.Core.Path.{_≡_, refl}
-use mathlib.Core.Bool.{true, false}
-use mathlib.Core.List.{List, [], _∷_, _++_}
+use mathlib.Core.Path.{refl}
 use Rattle.layout.specs.Bits.{setBit, clearBit}
 use Rattle.layout.specs.Run.{run}
-use Rattle.layout.specs.Layout.{sideOf, goodPtr, wordOf, inDescriptors, addr}
+use Rattle.layout.specs.Layout.{sideOf, goodPtr, wordOf, inDescriptors}
 use Rattle.layout.specs.Class.{ruleOf, classOf, classAt}
 use Rattle.words.specs.Word.{wordAt, putWord, word, put}
 use Rattle.words.specs.WordSet.{emptySet, has, freeAt, addFour, dropFour, freeCount, inUse, view}
@@ -21,140 +16,36 @@ use Rattle.blocks.specs.Room.{roomFor, roomOf, touches}
 use Rattle.descriptor.specs.Fields.{sop, eop, owner, eoq, td, packetLength, lengthOf, offsetOf, firstByte}
 use Rattle.descriptor.specs.Rules.{flagsFault, lengthFault, endFault, sumFault, behind, nextFault, ownFault, fetchFault}
 use Rattle.marks.specs.Marks.{putLength, marked, lastMarked}
-use Rattle.registers.specs.Table.{headOf, hdpOf, cpOf, tearingOf, setTearing, awaiting, anyTearing, resetOf, bitOf, flagsFit, loaded}
+use Rattle.registers.specs.Table.{awaiting, anyTearing, resetOf, bitOf, flagsFit, loaded}
 use Rattle.registers.specs.Rules.{headFault, ackFault, teardownFault, resetFault, zeroFault, tearQueue, byClass, registerFault, headWritten, ackWritten, written}
 use Rattle.chain.specs.Chain.{blockFault, descFault, judgeStep, chainOf}
 use Rattle.book.specs.Sound.{walkStep, walkFrom, walkAll, firstStep, firstsFrom, sound}
 use Rattle.book.specs.HandOver.{takeOne, dropOne, takeStep, takenFrom}
 use Rattle.book.specs.Release.{plan, releaseStep, releasedFrom, releasedAll, releasedFlags, releasedHeads, releasedBook}
 use Rattle.book.specs.World.{fitParts, unfit, soundBook, soundWorld, release}
-use Rattle.guard.specs.Answers.{numberOf, answerTo}
+use Rattle.guard.specs.Answers.{answerTo}
 use Rattle.guard.specs.Judges.{judgeHead, judgeRegister, lastOf, isLast, judgeAppend, judgeLast, judgeWord, judgeClass, judge}
 use Rattle.guard.specs.Guard.{admitted, guestWrite}
-use Rattle.kinds.specs.Kinds.{inReception, judgeKind, kindChange}
+use Rattle.kinds.specs.Kinds.{inReception, kindNumber, judgeKind, kindChange}
 use Rattle.phases.specs.Transmit.{fetch, readBurst, close, markEoq, octetsOf, clearOwn, finish, sendStep}
 use Rattle.phases.specs.Receive.{fetch as rxFetch, storeBurst as rxStore, close as rxClose, markLast as rxMarkLast, markFirst as rxMarkFirst, finish as rxFinish, takeStep as rxStep}
-use Rattle.phases.specs.declared.Sending.the-variants as S
-use Rattle.controller.specs.Controller.{txOf, transmitStep, receiveStep, tearMark, tearStep, resetStep, stepOf, frameOf, registerWrite, unguardedWrite, freshController}
-use Rattle.phases.specs.declared.Engine.the-variants.{Transmit, Receive, TearTransmit}
-use Rattle.layout.specs.declared.Side.the-variants as Side
-use Rattle.guard.specs.declared.Answer.the-variants.{Accepted}
-use Rattle.guard.specs.declared.Effect.the-variants.{Appended}
-use Rattle.machine.specs.Machine.{Machine, Op, write, kind, frame, step, worldOf, apply, runOps, applyWrite, applyKind, applyFrame, applyStep, freshMachine}
-use Rattle.cases.proofs.Scene.{cpAddr, txHdp, rxHdp, ready, desc}
-
-abbrev pub times : ℕ → Op → List Op
-times zero o = []
-times (suc n) o = o ∷ times n o
-
--- the number that an operation is given
-unfoldable pub numberFor : Op → Machine → ℕ
-numberFor o s = numberOf (apply o s .answer)
-
--- one packet of 60 bytes in Linux data, laid out at word d, and its start
-abbrev pub packet : ℕ → List Op
-packet d = desc d 0 0x8000_1000 60 0xE000_003C
-
--- ---- an empty queue: "between steps 5 and 6 it is not" idle
-
--- a packet is sent up to and with step 5; then any guard call, here a kind change, releases it
-unfoldable pub releasedEarly : Machine
-releasedEarly = runOps (packet 0 ++ write txHdp (addr 0) ∷ times 5 (step (Transmit 0)) ++ kind 1 1 ∷ []) ready
-
-pub record EmptyQueue : Type 0 where
-  -- the book's transmit queue is empty and its words are free for the guest
-  pub empty : headOf (releasedEarly .state) 0 ≡ 0
-  pub free : has (releasedEarly .used) 0 ≡ false
-  pub rewritten : numberFor (write (addr 0) 0x4A10_2010) releasedEarly ≡ 0
-  -- the controller still stands on that descriptor, with step 6 to do
-  pub busy : txOf (releasedEarly .ctl) 0 ≡ S.Done (record { next = 0 })
-  pub standing : hdpOf (releasedEarly .ctl .state) 0 ≡ 0x4A10_2000
-  -- so a start is refused by what HDP reads, where the book alone would let it through
-  pub refused : numberFor (write txHdp (addr 4)) (runOps (packet 4) releasedEarly) ≡ 10
-  -- and accepted after step 6
-  pub accepted : numberFor (write txHdp (addr 4)) (runOps (packet 4 ++ step (Transmit 0) ∷ []) releasedEarly) ≡ 0
+use Rattle.controller.specs.Controller.{transmitStep, receiveStep, tearMark, tearStep, resetStep, stepOf, frameOf, registerWrite, unguardedWrite, freshController}
+use Rattle.machine.specs.Machine.{applyWrite, applyKind, applyFrame, applyStep, freshMachine}
+use Rattle.cases.specs.Scene.{ready}
+use Rattle.beliefs.specs.Beliefs.{numberFor, releasedEarly, EmptyQueue, shrunk, LengthNow, latchedZero, leftBehind, LateAppend, codeLeft, tearing, OldCode}
 
 pub no-empty-queue-idle : EmptyQueue
-unfolding setBit clearBit run sideOf goodPtr wordOf inDescriptors ruleOf classOf classAt wordAt putWord word put emptySet has freeAt addFour dropFour freeCount inUse view fitKinds roomFor roomOf touches sop eop owner eoq td packetLength lengthOf offsetOf firstByte flagsFault lengthFault endFault sumFault behind nextFault ownFault fetchFault putLength marked lastMarked awaiting anyTearing resetOf bitOf flagsFit loaded headFault ackFault teardownFault resetFault zeroFault tearQueue byClass registerFault headWritten ackWritten written blockFault descFault judgeStep chainOf walkStep walkFrom walkAll firstStep firstsFrom sound takeOne dropOne takeStep takenFrom plan releaseStep releasedFrom releasedAll releasedFlags releasedHeads releasedBook fitParts unfit soundBook soundWorld release answerTo judgeHead judgeRegister lastOf isLast judgeAppend judgeLast judgeWord judgeClass judge admitted guestWrite inReception judgeKind kindChange fetch readBurst close markEoq octetsOf clearOwn finish sendStep transmitStep receiveStep tearMark tearStep resetStep stepOf frameOf registerWrite unguardedWrite freshController applyWrite applyKind applyFrame applyStep freshMachine rxFetch rxStore rxClose rxMarkLast rxMarkFirst rxFinish rxStep ready numberFor releasedEarly
+unfolding setBit clearBit run sideOf goodPtr wordOf inDescriptors ruleOf classOf classAt wordAt putWord word put emptySet has freeAt addFour dropFour freeCount inUse view fitKinds roomFor roomOf touches sop eop owner eoq td packetLength lengthOf offsetOf firstByte flagsFault lengthFault endFault sumFault behind nextFault ownFault fetchFault putLength marked lastMarked awaiting anyTearing resetOf bitOf flagsFit loaded headFault ackFault teardownFault resetFault zeroFault tearQueue byClass registerFault headWritten ackWritten written blockFault descFault judgeStep chainOf walkStep walkFrom walkAll firstStep firstsFrom sound takeOne dropOne takeStep takenFrom plan releaseStep releasedFrom releasedAll releasedFlags releasedHeads releasedBook fitParts unfit soundBook soundWorld release answerTo judgeHead judgeRegister lastOf isLast judgeAppend judgeLast judgeWord judgeClass judge admitted guestWrite inReception kindNumber judgeKind kindChange fetch readBurst close markEoq octetsOf clearOwn finish sendStep transmitStep receiveStep tearMark tearStep resetStep stepOf frameOf registerWrite unguardedWrite freshController applyWrite applyKind applyFrame applyStep freshMachine rxFetch rxStore rxClose rxMarkLast rxMarkFirst rxFinish rxStep ready numberFor releasedEarly
 no-empty-queue-idle = record { empty = refl; free = refl; rewritten = refl; busy = refl; standing = refl; refused = refl; accepted = refl }
 
--- ---- the length in word 2: "the controller has shrunk it"
-
--- blocks 1 and 2 are Linux data; a buffer of 512 bytes reaches over both; a frame of 16 bytes is stored, up to and with step 4
-unfoldable pub shrunk : Machine
-shrunk = runOps (kind 2 1 ∷ desc 0 0 0x8000_1F00 512 0x2000_0000 ++ write rxHdp (addr 0) ∷ frame 16 ∷ times 4 (step (Receive 0))) ready
-
-pub record LengthNow : Type 0 where
-  pub now : lengthOf Side.Receive (word (shrunk .mem) 2) ≡ 16
-  pub recorded : getD (shrunk .lens) 0 0 ≡ 512
-  -- by the length now, the buffer would end before block 2; by the recorded one it does not
-  pub missed : touches 2 (word (shrunk .mem) 1) 16 ≡ false
-  pub met : touches 2 (word (shrunk .mem) 1) 512 ≡ true
-  pub refused : numberFor (kind 2 2) shrunk ≡ 21
-  -- the queue is released with step 5, and the block may change
-  pub accepted : numberFor (kind 2 2) (runOps (step (Receive 0) ∷ []) shrunk) ≡ 0
-
 pub no-length-now : LengthNow
-unfolding setBit clearBit run sideOf goodPtr wordOf inDescriptors ruleOf classOf classAt wordAt putWord word put emptySet has freeAt addFour dropFour freeCount inUse view fitKinds roomFor roomOf touches sop eop owner eoq td packetLength lengthOf offsetOf firstByte flagsFault lengthFault endFault sumFault behind nextFault ownFault fetchFault putLength marked lastMarked awaiting anyTearing resetOf bitOf flagsFit loaded headFault ackFault teardownFault resetFault zeroFault tearQueue byClass registerFault headWritten ackWritten written blockFault descFault judgeStep chainOf walkStep walkFrom walkAll firstStep firstsFrom sound takeOne dropOne takeStep takenFrom plan releaseStep releasedFrom releasedAll releasedFlags releasedHeads releasedBook fitParts unfit soundBook soundWorld release answerTo judgeHead judgeRegister lastOf isLast judgeAppend judgeLast judgeWord judgeClass judge admitted guestWrite inReception judgeKind kindChange fetch readBurst close markEoq octetsOf clearOwn finish sendStep transmitStep receiveStep tearMark tearStep resetStep stepOf frameOf registerWrite unguardedWrite freshController applyWrite applyKind applyFrame applyStep freshMachine rxFetch rxStore rxClose rxMarkLast rxMarkFirst rxFinish rxStep ready numberFor shrunk
+unfolding setBit clearBit run sideOf goodPtr wordOf inDescriptors ruleOf classOf classAt wordAt putWord word put emptySet has freeAt addFour dropFour freeCount inUse view fitKinds roomFor roomOf touches sop eop owner eoq td packetLength lengthOf offsetOf firstByte flagsFault lengthFault endFault sumFault behind nextFault ownFault fetchFault putLength marked lastMarked awaiting anyTearing resetOf bitOf flagsFit loaded headFault ackFault teardownFault resetFault zeroFault tearQueue byClass registerFault headWritten ackWritten written blockFault descFault judgeStep chainOf walkStep walkFrom walkAll firstStep firstsFrom sound takeOne dropOne takeStep takenFrom plan releaseStep releasedFrom releasedAll releasedFlags releasedHeads releasedBook fitParts unfit soundBook soundWorld release answerTo judgeHead judgeRegister lastOf isLast judgeAppend judgeLast judgeWord judgeClass judge admitted guestWrite inReception kindNumber judgeKind kindChange fetch readBurst close markEoq octetsOf clearOwn finish sendStep transmitStep receiveStep tearMark tearStep resetStep stepOf frameOf registerWrite unguardedWrite freshController applyWrite applyKind applyFrame applyStep freshMachine rxFetch rxStore rxClose rxMarkLast rxMarkFirst rxFinish rxStep ready numberFor shrunk
 no-length-now = record { now = refl; recorded = refl; missed = refl; met = refl; refused = refl; accepted = refl }
 
--- ---- a late append: "EOQ releases it"
-
--- step 3 latched a next of 0; then a second packet is laid out
-unfoldable pub latchedZero : Machine
-latchedZero = runOps (packet 0 ++ write txHdp (addr 0) ∷ times 3 (step (Transmit 0)) ++ packet 4) ready
-
--- appended, and the controller goes on for eight steps more
-unfoldable pub leftBehind : Machine
-leftBehind = runOps (write (addr 0) (addr 4) ∷ times 8 (step (Transmit 0))) latchedZero
-
-pub record LateAppend : Type 0 where
-  pub appended : apply (write (addr 0) (addr 4)) latchedZero .answer ≡ Accepted (Appended Side.Transmit 0)
-  -- the engine is idle, only the first packet was sent, the second is as it was handed over
-  pub idle : txOf (leftBehind .ctl) 0 ≡ S.Idle
-  pub hdp : hdpOf (leftBehind .ctl .state) 0 ≡ 0
-  pub sent : leftBehind .ctl .sent ≡ 60
-  pub unsent : owner (word (leftBehind .mem) 7) ≡ true
-  -- the next guard call frees both packets
-  pub held : has (leftBehind .used) 4 ≡ true
-  pub freed : has (apply (kind 1 1) leftBehind .machine .used) 4 ≡ false
-
 pub no-append-always-sent : LateAppend
-unfolding setBit clearBit run sideOf goodPtr wordOf inDescriptors ruleOf classOf classAt wordAt putWord word put emptySet has freeAt addFour dropFour freeCount inUse view fitKinds roomFor roomOf touches sop eop owner eoq td packetLength lengthOf offsetOf firstByte flagsFault lengthFault endFault sumFault behind nextFault ownFault fetchFault putLength marked lastMarked awaiting anyTearing resetOf bitOf flagsFit loaded headFault ackFault teardownFault resetFault zeroFault tearQueue byClass registerFault headWritten ackWritten written blockFault descFault judgeStep chainOf walkStep walkFrom walkAll firstStep firstsFrom sound takeOne dropOne takeStep takenFrom plan releaseStep releasedFrom releasedAll releasedFlags releasedHeads releasedBook fitParts unfit soundBook soundWorld release answerTo judgeHead judgeRegister lastOf isLast judgeAppend judgeLast judgeWord judgeClass judge admitted guestWrite inReception judgeKind kindChange fetch readBurst close markEoq octetsOf clearOwn finish sendStep transmitStep receiveStep tearMark tearStep resetStep stepOf frameOf registerWrite unguardedWrite freshController applyWrite applyKind applyFrame applyStep freshMachine rxFetch rxStore rxClose rxMarkLast rxMarkFirst rxFinish rxStep ready numberFor latchedZero leftBehind
+unfolding setBit clearBit run sideOf goodPtr wordOf inDescriptors ruleOf classOf classAt wordAt putWord word put emptySet has freeAt addFour dropFour freeCount inUse view fitKinds roomFor roomOf touches sop eop owner eoq td packetLength lengthOf offsetOf firstByte flagsFault lengthFault endFault sumFault behind nextFault ownFault fetchFault putLength marked lastMarked awaiting anyTearing resetOf bitOf flagsFit loaded headFault ackFault teardownFault resetFault zeroFault tearQueue byClass registerFault headWritten ackWritten written blockFault descFault judgeStep chainOf walkStep walkFrom walkAll firstStep firstsFrom sound takeOne dropOne takeStep takenFrom plan releaseStep releasedFrom releasedAll releasedFlags releasedHeads releasedBook fitParts unfit soundBook soundWorld release answerTo judgeHead judgeRegister lastOf isLast judgeAppend judgeLast judgeWord judgeClass judge admitted guestWrite inReception kindNumber judgeKind kindChange fetch readBurst close markEoq octetsOf clearOwn finish sendStep transmitStep receiveStep tearMark tearStep resetStep stepOf frameOf registerWrite unguardedWrite freshController applyWrite applyKind applyFrame applyStep freshMachine rxFetch rxStore rxClose rxMarkLast rxMarkFirst rxFinish rxStep ready numberFor latchedZero leftBehind
 no-append-always-sent = record { appended = refl; idle = refl; hdp = refl; sent = refl; unsent = refl; held = refl; freed = refl }
 
--- ---- the code of a teardown: the one before may have left it
-
-abbrev pub txCp : ℕ
-txCp = cpAddr 0
-
-abbrev pub txTeardown : ℕ
-txTeardown = 0x4A10_0808
-
--- a first teardown runs to its end, its code is not acknowledged, and a second packet is started
-unfoldable pub codeLeft : Machine
-codeLeft =
-    runOps (packet 0 ++ write txHdp (addr 0) ∷ write txTeardown 0 ∷ times 3 (step (TearTransmit 0)) ++ packet 4 ++ write txHdp (addr 4) ∷ []) ready
-
--- the code is acknowledged and a second teardown is asked for
-unfoldable pub tearing : Machine
-tearing = runOps (write txCp 0xFFFF_FFFC ∷ write txTeardown 0 ∷ []) codeLeft
-
-pub record OldCode : Type 0 where
-  -- the first teardown's code stands, and the engine is at work on the second packet
-  pub code : cpOf (codeLeft .ctl .state) 0 ≡ 0xFFFF_FFFC
-  pub busy : txOf (codeLeft .ctl) 0 ≡ S.New
-  pub standing : hdpOf (codeLeft .ctl .state) 0 ≡ 0x4A10_2010
-  -- were a second teardown pending now, the next release would take it for done
-  pub believed : tearingOf (releasedFlags (setTearing 0 (worldOf codeLeft .state))) 0 ≡ false
-  -- so it is refused until the code is acknowledged
-  pub refused : numberFor (write txTeardown 0) codeLeft ≡ 10
-  -- then it is pending with book and controller, and CP does not read the code before it is done
-  pub acknowledged : cpOf (tearing .ctl .state) 0 ≡ 0
-  pub pendingBook : tearingOf (tearing .state) 0 ≡ true
-  pub pendingModel : tearingOf (tearing .ctl .state) 0 ≡ true
-  pub done : cpOf (runOps (times 3 (step (TearTransmit 0))) tearing .ctl .state) 0 ≡ 0xFFFF_FFFC
-
 pub no-old-teardown-code : OldCode
-unfolding setBit clearBit run sideOf goodPtr wordOf inDescriptors ruleOf classOf classAt wordAt putWord word put emptySet has freeAt addFour dropFour freeCount inUse view fitKinds roomFor roomOf touches sop eop owner eoq td packetLength lengthOf offsetOf firstByte flagsFault lengthFault endFault sumFault behind nextFault ownFault fetchFault putLength marked lastMarked awaiting anyTearing resetOf bitOf flagsFit loaded headFault ackFault teardownFault resetFault zeroFault tearQueue byClass registerFault headWritten ackWritten written blockFault descFault judgeStep chainOf walkStep walkFrom walkAll firstStep firstsFrom sound takeOne dropOne takeStep takenFrom plan releaseStep releasedFrom releasedAll releasedFlags releasedHeads releasedBook fitParts unfit soundBook soundWorld release answerTo judgeHead judgeRegister lastOf isLast judgeAppend judgeLast judgeWord judgeClass judge admitted guestWrite inReception judgeKind kindChange fetch readBurst close markEoq octetsOf clearOwn finish sendStep transmitStep receiveStep tearMark tearStep resetStep stepOf frameOf registerWrite unguardedWrite freshController applyWrite applyKind applyFrame applyStep freshMachine rxFetch rxStore rxClose rxMarkLast rxMarkFirst rxFinish rxStep ready numberFor codeLeft tearing
+unfolding setBit clearBit run sideOf goodPtr wordOf inDescriptors ruleOf classOf classAt wordAt putWord word put emptySet has freeAt addFour dropFour freeCount inUse view fitKinds roomFor roomOf touches sop eop owner eoq td packetLength lengthOf offsetOf firstByte flagsFault lengthFault endFault sumFault behind nextFault ownFault fetchFault putLength marked lastMarked awaiting anyTearing resetOf bitOf flagsFit loaded headFault ackFault teardownFault resetFault zeroFault tearQueue byClass registerFault headWritten ackWritten written blockFault descFault judgeStep chainOf walkStep walkFrom walkAll firstStep firstsFrom sound takeOne dropOne takeStep takenFrom plan releaseStep releasedFrom releasedAll releasedFlags releasedHeads releasedBook fitParts unfit soundBook soundWorld release answerTo judgeHead judgeRegister lastOf isLast judgeAppend judgeLast judgeWord judgeClass judge admitted guestWrite inReception kindNumber judgeKind kindChange fetch readBurst close markEoq octetsOf clearOwn finish sendStep transmitStep receiveStep tearMark tearStep resetStep stepOf frameOf registerWrite unguardedWrite freshController applyWrite applyKind applyFrame applyStep freshMachine rxFetch rxStore rxClose rxMarkLast rxMarkFirst rxFinish rxStep ready numberFor codeLeft tearing
 no-old-teardown-code = record { code = refl; busy = refl; standing = refl; believed = refl; refused = refl; acknowledged = refl; pendingBook = refl; pendingModel = refl; done = refl }

@@ -3,3 +3,4 @@ pub mod HandOverLaws
 pub mod SoundLaws
 pub mod HeadLaws
 pub mod QuietLaws
+pub mod Settled

@@ -4,18 +4,20 @@
 --     setMem, setKinds, setState, setUses   named changes, one for each part
 --     fitParts m kinds, unfit s 1: "descriptor memory not 8,192 bytes, N out of range, or a kind byte over 4"
 --     soundBook, soundWorld s   2 where false
+--     freshState, freshUsed, freshLens   the guard's part of a fresh machine: zero registers, no flag, empty queues
 --     release s                 "Every guard call not answered 1 or 2 first releases"
 -- Assumes nothing: these are definitions.
 use Prim.Native.Nat.{ℕ}
 use mathlib.Core.Bool.{Bool, not}
 use mathlib.Core.List.{List}
-use lib.ListN.{length}
+use lib.ListN.{length, replicate}
 use lib.Dec.{eqb}
 use Rattle.layout.specs.Choice.{both}
-use Rattle.layout.specs.Layout.{descBytes}
+use Rattle.layout.specs.Layout.{descBytes, descWords}
 use Rattle.words.specs.Word.{word}
+use Rattle.words.specs.WordSet.{emptySet}
 use Rattle.blocks.specs.Kinds.{fitKinds}
-use Rattle.registers.specs.Table.{headsOf, flagsFit}
+use Rattle.registers.specs.Table.{stateWords, headsOf, flagsFit}
 use Rattle.book.specs.Sound.{sound}
 use Rattle.book.specs.HandOver.{Uses}
 use Rattle.book.specs.Release.{releasedBook}
@@ -54,3 +56,14 @@ soundWorld s = soundBook (word (s .mem)) (s .state) (s .used) (s .lens)
 
 unfoldable pub release : World → World
 release s = let r = releasedBook (word (s .mem)) (s .state) (s .used, s .lens) in setState (r .0) (setUses (r .1) s)
+
+-- ---- "A fresh machine has zero .. registers, empty queues, .. and awaits all four zeros"
+
+abbrev pub freshState : List ℕ
+freshState = replicate stateWords 0
+
+abbrev pub freshUsed : List ℕ
+freshUsed = emptySet
+
+abbrev pub freshLens : List ℕ
+freshLens = replicate descWords 0

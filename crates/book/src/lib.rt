@@ -245,7 +245,7 @@ fn plan_through(x3: u32) -> Plan
 }
 
 // What becomes of a descriptor, by where the release stands and by its word 3.
-pub fn plan_of(mode: Mode, x3: u32) -> Plan
+fn plan_of(mode: Mode, x3: u32) -> Plan
     ensures { λ r. ⌜ r ≡ plan mode x3 ⌝ }
 {
     match mode {

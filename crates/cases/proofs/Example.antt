@@ -1,7 +1,5 @@
 -- The bench's example of document 01, computed: what is printed for its input, byte for byte. Assumes nothing.
-use Prim.Native.Nat.{ℕ}
 use mathlib.Core.Path.{_≡_, refl}
-use mathlib.Core.List.{List, [], _∷_}
 use Rattle.layout.specs.Bits.{setBit, clearBit}
 use Rattle.layout.specs.Run.{run}
 use Rattle.layout.specs.Layout.{sideOf, goodPtr, wordOf, inDescriptors}
@@ -23,22 +21,15 @@ use Rattle.book.specs.World.{fitParts, unfit, soundBook, soundWorld, release}
 use Rattle.guard.specs.Answers.{answerTo}
 use Rattle.guard.specs.Judges.{judgeHead, judgeRegister, lastOf, isLast, judgeAppend, judgeLast, judgeWord, judgeClass, judge}
 use Rattle.guard.specs.Guard.{admitted, guestWrite}
-use Rattle.kinds.specs.Kinds.{inReception, judgeKind, kindChange}
+use Rattle.kinds.specs.Kinds.{inReception, kindNumber, judgeKind, kindChange}
 use Rattle.phases.specs.Transmit.{fetch, readBurst, close, markEoq, octetsOf, clearOwn, finish, sendStep}
 use Rattle.controller.specs.Controller.{transmitStep, receiveStep, tearMark, tearStep, resetStep, stepOf, frameOf, registerWrite, unguardedWrite, freshController}
 use Rattle.machine.specs.Machine.{applyWrite, applyKind, applyFrame, applyStep, freshMachine}
 use Rattle.records.specs.Records.{decodeRam, engineOf, decodeLater, decode}
 use Rattle.records.specs.Lines.{decimal, hex8, lineOf, sentLine, badLine}
 use Rattle.replay.specs.Replay.{recordOf, replay}
-
--- "Input RM 4 with kinds 0,1,2,3; GW 4A100A04, 0; KC 1, 2"
-abbrev pub exampleIn : List ℕ
-exampleIn = 82 ∷ 77 ∷ 4 ∷ 0 ∷ 0 ∷ 1 ∷ 2 ∷ 3 ∷ 71 ∷ 87 ∷ 4 ∷ 10 ∷ 16 ∷ 74 ∷ 0 ∷ 0 ∷ 0 ∷ 0 ∷ 75 ∷ 67 ∷ 1 ∷ 0 ∷ 2 ∷ []
-
--- "prints exactly": W 4A100A04 5, K 1 0, sent 0 received 0, each on a line of its own
-abbrev pub exampleOut : List ℕ
-exampleOut = 87 ∷ 32 ∷ 52 ∷ 65 ∷ 49 ∷ 48 ∷ 48 ∷ 65 ∷ 48 ∷ 52 ∷ 32 ∷ 53 ∷ 10 ∷ 75 ∷ 32 ∷ 49 ∷ 32 ∷ 48 ∷ 10 ∷ 115 ∷ 101 ∷ 110 ∷ 116 ∷ 32 ∷ 48 ∷ 32 ∷ 114 ∷ 101 ∷ 99 ∷ 101 ∷ 105 ∷ 118 ∷ 101 ∷ 100 ∷ 32 ∷ 48 ∷ 10 ∷ []
+use Rattle.cases.specs.Example.{exampleIn, exampleOut}
 
 pub example : replay exampleIn ≡ exampleOut
-unfolding setBit clearBit run sideOf goodPtr wordOf inDescriptors ruleOf classOf classAt wordAt putWord word put emptySet has freeAt addFour dropFour freeCount inUse view fitKinds roomFor roomOf touches sop eop owner eoq td packetLength lengthOf offsetOf firstByte flagsFault lengthFault endFault sumFault behind nextFault ownFault fetchFault putLength marked lastMarked awaiting anyTearing resetOf bitOf flagsFit loaded headFault ackFault teardownFault resetFault zeroFault tearQueue byClass registerFault headWritten ackWritten written blockFault descFault judgeStep chainOf walkStep walkFrom walkAll firstStep firstsFrom sound takeOne dropOne takeStep takenFrom plan releaseStep releasedFrom releasedAll releasedFlags releasedHeads releasedBook fitParts unfit soundBook soundWorld release answerTo judgeHead judgeRegister lastOf isLast judgeAppend judgeLast judgeWord judgeClass judge admitted guestWrite inReception judgeKind kindChange fetch readBurst close markEoq octetsOf clearOwn finish sendStep transmitStep receiveStep tearMark tearStep resetStep stepOf frameOf registerWrite unguardedWrite freshController applyWrite applyKind applyFrame applyStep freshMachine decodeRam engineOf decodeLater decode decimal hex8 lineOf sentLine badLine recordOf replay
+unfolding setBit clearBit run sideOf goodPtr wordOf inDescriptors ruleOf classOf classAt wordAt putWord word put emptySet has freeAt addFour dropFour freeCount inUse view fitKinds roomFor roomOf touches sop eop owner eoq td packetLength lengthOf offsetOf firstByte flagsFault lengthFault endFault sumFault behind nextFault ownFault fetchFault putLength marked lastMarked awaiting anyTearing resetOf bitOf flagsFit loaded headFault ackFault teardownFault resetFault zeroFault tearQueue byClass registerFault headWritten ackWritten written blockFault descFault judgeStep chainOf walkStep walkFrom walkAll firstStep firstsFrom sound takeOne dropOne takeStep takenFrom plan releaseStep releasedFrom releasedAll releasedFlags releasedHeads releasedBook fitParts unfit soundBook soundWorld release answerTo judgeHead judgeRegister lastOf isLast judgeAppend judgeLast judgeWord judgeClass judge admitted guestWrite inReception kindNumber judgeKind kindChange fetch readBurst close markEoq octetsOf clearOwn finish sendStep transmitStep receiveStep tearMark tearStep resetStep stepOf frameOf registerWrite unguardedWrite freshController applyWrite applyKind applyFrame applyStep freshMachine decodeRam engineOf decodeLater decode decimal hex8 lineOf sentLine badLine recordOf replay
 example = refl

@@ -1,3 +1,2 @@
-pub mod Scene
 pub mod Starred
 pub mod Example

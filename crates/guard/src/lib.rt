@@ -70,7 +70,7 @@ ghost use Rattle.registers.specs.Rules.{ackFault, ackWritten, teardownNumber, r
 ghost use Rattle.chain.specs.Chain.{verdictOf, verdictNumber};
 ghost use Rattle.book.specs.Quiet.{quiet};
 ghost use Rattle.book.specs.World.{fitParts, soundBook, unfit, soundWorld, release};
-ghost use Rattle.guard.specs.Answers.{worldAt, Gives, answerTo, numberOf, effectOf, numberOfSide, sideNumber, channelNumber};
+ghost use Rattle.guard.specs.Answers.{worldAt, Gives, answerTo, numberOf};
 ghost use Rattle.guard.specs.Judges.{lastOf, isLast, tailIn, judgeStart, judgeHead, judgeLast, judgeWord, judgeClass, judge};
 ghost use Rattle.guard.specs.Rulings.{handedOver, appended, ruled, freeWord, plainStore, cpAddress};
 ghost use Rattle.guard.specs.Guard.{stateFault, guestWrite};
@@ -118,57 +118,6 @@ pub fn answer_number(a: Answer) -> u8
     match a {
         Answer::Accepted(_) => 0,
         Answer::Refused(n) => n,
-    }
-}
-
-// What an accepted write did, as a number: 1 plain, 2 started, 3 appended; 0 for a refusal.
-pub fn answer_effect(a: Answer) -> u8
-    ensures { λ r. ⌜ r ≡ effectOf a ⌝ }
-{
-    match a {
-        Answer::Accepted(e) => match e {
-            Effect::Plain => 1,
-            Effect::Started(_, _) => 2,
-            Effect::Appended(_, _) => 3,
-        },
-        Answer::Refused(_) => 0,
-    }
-}
-
-fn side_number(s: Side) -> u8
-    ensures { λ r. ⌜ r ≡ numberOfSide s ⌝ }
-{
-    match s {
-        Side::Transmit => 1,
-        Side::Receive => 2,
-    }
-}
-
-// On which side a write started or appended: 1 transmit, 2 receive; 0 for any other.
-pub fn answer_side(a: Answer) -> u8
-    ensures { λ r. ⌜ r ≡ sideNumber a ⌝ }
-{
-    match a {
-        Answer::Accepted(e) => match e {
-            Effect::Plain => 0,
-            Effect::Started(s, _) => side_number(s),
-            Effect::Appended(s, _) => side_number(s),
-        },
-        Answer::Refused(_) => 0,
-    }
-}
-
-// On which channel a write started or appended; 0 for any other.
-pub fn answer_channel(a: Answer) -> u8
-    ensures { λ r. ⌜ r ≡ channelNumber a ⌝ }
-{
-    match a {
-        Answer::Accepted(e) => match e {
-            Effect::Plain => 0,
-            Effect::Started(_, c) => c,
-            Effect::Appended(_, c) => c,
-        },
-        Answer::Refused(_) => 0,
     }
 }
 

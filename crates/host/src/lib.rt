@@ -43,7 +43,7 @@ fn turn_by(c: Controller, mem: &mut [u8], e: Engine) -> Turn
 }
 
 // One step on a record that is lent, and changed there: the one entry for every engine.
-pub fn step_engine(c: &mut Controller, mem: &mut [u8], e: Engine) -> Told
+fn step_engine(c: &mut Controller, mem: &mut [u8], e: Engine) -> Told
     ensures { λ r. ⌜ (r ≡ toldOf (stepOf e (now (c .entry)) (now (mem .entry))))
         × (now (c .exit) ≡ stepOf e (now (c .entry)) (now (mem .entry)) .ctl)
         × (now (mem .exit) ≡ stepOf e (now (c .entry)) (now (mem .entry)) .mem) ⌝ }
@@ -54,7 +54,7 @@ pub fn step_engine(c: &mut Controller, mem: &mut [u8], e: Engine) -> Told
 }
 
 // A frame of n bytes comes to a record that is lent, and changed there.
-pub fn take_frame(c: &mut Controller, n: u32) -> u8
+fn take_frame(c: &mut Controller, n: u32) -> u8
     ensures { λ r. ⌜ (r ≡ frameOf n (now (c .entry)) .number) × (now (c .exit) ≡ frameOf n (now (c .entry)) .ctl) ⌝ }
 {
     let t = take_frame_by(*c, n);

@@ -25,8 +25,8 @@ use Rattle.guard.specs.declared.Answer.the-variants.{Accepted, Refused}
 use Rattle.guard.specs.Answers.{Outcome, accept, refuse, answerTo, worldAt, Gives}
 use Rattle.guard.specs.Guard.{stateFault, admitted}
 use Rattle.guard.proofs.GivesLaws.{gives-as, admitted-refused, admitted-passed, admitted-sound}
-use Rattle.kinds.specs.Kinds.{received, inReception, judgeKind, kindChange}
-use Rattle.kinds.specs.Parts.{kindNumber, kindOutcome}
+use Rattle.kinds.specs.Kinds.{received, inReception, kindNumber, judgeKind, kindChange}
+use Rattle.kinds.specs.Parts.{kindOutcome}
 
 -- ---- receive buffers
 pub received-next : (w : ℕ → ℕ) (b i j : ℕ) (l : List ℕ) → i < length l → received w j (drop i l) b ≡ pick (touches b (w (j + 1)) (getD l i 0)) true (received w (j + 1) (drop (suc i) l) b)
@@ -170,43 +170,27 @@ module _ (m k t u l : List ℕ) where
     lens = refl;
   }
 
-  -- the judge's tests for a list of one block are those of the number
-  number-at : (i v : ℕ) (t1 t2 t3 t4 t5 : Bool)
-      → pick {A = Outcome} (both t1 true)
-      (pick t2 (pick (pick t3 true false) (refuse 20 here)
-      (pick (both t4 (pick t5 true false)) (refuse 21 here) (accept Plain (setKinds (set k i v) here)))) (refuse 19 here))
-      (refuse 18 here)
-      ≡ (let n = pick t1 (pick t2 (pick t3 20 (pick (both t4 t5) 21 0)) 19) 18 in
-      pick (eqb n 0) (accept Plain (setKinds (set k i v) here)) (refuse n here))
-  number-at i v true true true t4 t5 = refl
-  number-at i v true true false true true = refl
-  number-at i v true true false true false = refl
-  number-at i v true true false false t5 = refl
-  number-at i v true false t3 t4 t5 = refl
-  number-at i v false t2 t3 t4 t5 = refl
-
   pub kind-gives : (i v : ℕ) {x : ℕ × List ℕ} → x ≡ kindOutcome i v (word m) l k → {a : Answer} → a ≡ answerTo Plain (x .0)
-      → Gives (judgeKind (i ∷ []) v here) a m (x .1) t u l
-  unfolding judgeKind kindOutcome kindNumber
-  kind-gives i v e f =
-      gives-as (number-at i v (ltb i (length k)) (both (leb 1 v) (leb v 4)) (eqb (getD k i 0) 0) (not (eqb v 1)) (inReception (word m) l i))
-      (changed-at i v (eqb (pick (ltb i (length k)) (pick (both (leb 1 v) (leb v 4)) (pick (eqb (getD k i 0) 0) 20 (pick (both (not (eqb v 1)) (inReception (word m) l i)) 21 0)) 19) 18) 0) _ refl e f)
+      → Gives (judgeKind i v here) a m (x .1) t u l
+  unfolding judgeKind kindOutcome
+  kind-gives i v e f = changed-at i v (eqb (kindNumber i v (word m) l k) 0) (kindNumber i v (word m) l k) refl e f
 
   module _ (i v : ℕ) where
     pub kind-released : {t₁ u₁ l₁ : List ℕ} → release here ≡ worldAt m k t₁ u₁ l₁ → {r : Answer} {k′ t′ u′ l′ : List ℕ}
-        → Gives (judgeKind (i ∷ []) v (worldAt m k t₁ u₁ l₁)) r m k′ t′ u′ l′ → Gives (judgeKind (i ∷ []) v (release here)) r m k′ t′ u′ l′
-    kind-released e g = gives-as (ap (λ (s : World). judgeKind (i ∷ []) v s) e) g
+        → Gives (judgeKind i v (worldAt m k t₁ u₁ l₁)) r m k′ t′ u′ l′ → Gives (judgeKind i v (release here)) r m k′ t′ u′ l′
+    kind-released e g = gives-as (ap (λ (s : World). judgeKind i v s) e) g
 
     module _ {n : ℕ} (e : n ≡ stateFault m k t u l) where
       pub change-refused : n ≢ 0 → Gives (kindChange i v here) (Refused n) m k t u l
       unfolding kindChange
-      change-refused h = admitted-refused m k t u l (λ s. judgeKind (i ∷ []) v s) e h
+      change-refused h = admitted-refused m k t u l (λ s. judgeKind i v s) e h
 
-      pub change-gives : n ≡ 0 → {r : Answer} {k′ t′ u′ l′ : List ℕ} → Gives (judgeKind (i ∷ []) v (release here)) r m k′ t′ u′ l′ → Gives (kindChange i v here) r m k′ t′ u′ l′
+      pub change-gives : n ≡ 0 → {r : Answer} {k′ t′ u′ l′ : List ℕ} → Gives (judgeKind i v (release here)) r m k′ t′ u′ l′
+          → Gives (kindChange i v here) r m k′ t′ u′ l′
       unfolding kindChange
-      change-gives h g = gives-as (admitted-passed m k t u l (λ s. judgeKind (i ∷ []) v s) e h) g
+      change-gives h g = gives-as (admitted-passed m k t u l (λ s. judgeKind i v s) e h) g
 
     pub change-sound : unfit here ≡ false → soundWorld here ≡ true → {r : Answer} {k′ t′ u′ l′ : List ℕ}
-        → Gives (judgeKind (i ∷ []) v (release here)) r m k′ t′ u′ l′ → Gives (kindChange i v here) r m k′ t′ u′ l′
+        → Gives (judgeKind i v (release here)) r m k′ t′ u′ l′ → Gives (kindChange i v here) r m k′ t′ u′ l′
     unfolding kindChange
-    change-sound f s g = gives-as (admitted-sound m k t u l (λ x. judgeKind (i ∷ []) v x) f s) g
+    change-sound f s g = gives-as (admitted-sound m k t u l (λ x. judgeKind i v x) f s) g

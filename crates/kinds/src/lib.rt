@@ -20,7 +20,6 @@ use registers::State;
 use words::word_of;
 ghost use mathlib.Core.Path.{_≡_};
 ghost use mathlib.Core.Bool.{true, false};
-ghost use mathlib.Core.List.{[], _∷_};
 ghost use Prim.Native.Nat.{ℕ, _+_};
 ghost use lib.ListN.{length};
 ghost use Rattle.layout.specs.Layout.{descBytes};
@@ -28,8 +27,8 @@ ghost use Rattle.words.specs.Word.{word};
 ghost use Rattle.blocks.specs.Room.{touches};
 ghost use Rattle.book.specs.World.{unfit, soundWorld, release};
 ghost use Rattle.guard.specs.Answers.{worldAt, Gives};
-ghost use Rattle.kinds.specs.Kinds.{inReception, judgeKind, kindChange};
-ghost use Rattle.kinds.specs.Parts.{kindNumber, kindOutcome};
+ghost use Rattle.kinds.specs.Kinds.{inReception, kindNumber, judgeKind, kindChange};
+ghost use Rattle.kinds.specs.Parts.{kindOutcome};
 
 // The largest kind.
 const KIND_MAX: u32 = 4;
@@ -118,7 +117,7 @@ fn change_released(
     lens: &mut Lengths,
 ) -> Answer
     requires { ⌜ length (now m) ≡ descBytes ⌝ }
-    ensures { λ r. ⌜ Gives (judgeKind (block ∷ []) kind (release (worldAt (now (m .entry)) (now (kinds .entry)) (now (t .entry)) (now (used .entry)) (now (lens .entry))))) r
+    ensures { λ r. ⌜ Gives (judgeKind block kind (release (worldAt (now (m .entry)) (now (kinds .entry)) (now (t .entry)) (now (used .entry)) (now (lens .entry))))) r
         (now (m .entry)) (now (kinds .exit)) (now (t .exit)) (now (used .exit)) (now (lens .exit)) ⌝ }
 {
     release_book(m, t, used, lens);

@@ -1,1 +1,3 @@
 pub mod LeavesLaws
+pub mod FreshLaws
+pub mod Settled

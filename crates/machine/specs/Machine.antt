@@ -10,10 +10,9 @@ use mathlib.Core.List.{List, [], _∷_}
 use lib.ListN.{replicate}
 use lib.Dec.{eqb}
 use Rattle.layout.specs.Choice.{pick}
-use Rattle.layout.specs.Layout.{descBytes, descWords}
-use Rattle.words.specs.WordSet.{emptySet}
-use Rattle.registers.specs.Table.{stateWords, loaded}
-use Rattle.book.specs.World.{World}
+use Rattle.layout.specs.Layout.{descBytes}
+use Rattle.registers.specs.Table.{loaded}
+use Rattle.book.specs.World.{World, freshState, freshUsed, freshLens}
 use Rattle.guard.specs.declared.Answer.{Answer}
 use Rattle.guard.specs.declared.Answer.the-variants.{Refused}
 use Rattle.guard.specs.declared.Effect.the-variants.{Plain}
@@ -106,7 +105,7 @@ freshMachine kinds = record {
   ctl = freshController;
   mem = replicate descBytes 0;
   kinds = kinds;
-  state = replicate stateWords 0;
-  used = emptySet;
-  lens = replicate descWords 0;
+  state = freshState;
+  used = freshUsed;
+  lens = freshLens;
 }

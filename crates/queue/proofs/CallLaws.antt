@@ -19,7 +19,7 @@ use lib.ListN.{length, getD, set, replicate}
 use lib.Seq.{length-take-le}
 use lib.Dec.{eqb, leb, ltb}
 use borrow.Author.Tests.{eq-eqb, eqb-true, ltb-true, leb-true}
-use Rattle.layout.specs.Choice.{pick, both, every, some}
+use Rattle.layout.specs.Choice.{pick, both}
 use Rattle.layout.specs.Layout.{descFirst, descBytes, inDescriptors, queues, sideOf}
 use Rattle.layout.specs.Class.{classAt, hdpClass, cpClass, teardownClass, resetClass, passedClass, unofferedClass, unguardedClass}
 use Rattle.layout.proofs.ChoiceLaws.{yes-of, by-pick, both-left, both-right}
@@ -41,7 +41,8 @@ use Rattle.guard.specs.declared.Tail.the-variants.{Of, Nobody}
 use Rattle.guard.specs.Answers.{Outcome, refuse, worldAt, Gives}
 use Rattle.guard.specs.Judges.{judgeChain, started, judgeHead, judgeRegister, isLast, tailIn, judgeAppend, atTail, judgeLast, judgeWord, judgeClass, judge}
 use Rattle.guard.specs.Guard.{admitted, guestWrite}
-use Rattle.kinds.specs.Kinds.{mapBool, inReception, kindsAfter, judgeKind, kindChange}
+use Rattle.kinds.specs.Kinds.{kindNumber, judgeKind, kindChange}
+use Rattle.kinds.proofs.KindLaws.{kind-tests}
 use Rattle.queue.specs.Calls.{FitSound, LeavesSound, Call, write, kind, read, called, calledAll}
 use Rattle.queue.proofs.SoleLaws.{sole-empty}
 use Rattle.queue.proofs.RecordLaws.{recorded-empty}
@@ -282,26 +283,20 @@ module _ (s : World) (h : Held s) where
       (λ e. h)
 
 -- a new kind is at most 4: "19 new kind not 1..4"
-after-fits : (kinds bs : List ℕ) (k : ℕ) → k ≤ 4 → fitKinds kinds ≡ true → fitKinds (kindsAfter kinds bs k) ≡ true
-after-fits kinds [] k l f = f
-after-fits kinds (b ∷ bs) k l f = after-fits (set kinds b k) bs k l (set-keeps-fitKinds kinds b k l f)
-
-pub judge-kind-held : (bs : List ℕ) (k : ℕ) (s : World) → Held s → Held (judgeKind bs k s .world)
+pub judge-kind-held : (b k : ℕ) (s : World) → Held s → Held (judgeKind b k s .world)
 unfolding judgeKind
-judge-kind-held bs k s h =
-    by-pick Leaves (every (mapBool (λ b. ltb b (length (s .kinds))) bs)) _ _
-    (λ d. by-pick Leaves (both (leb 1 k) (leb k 4)) _ _
-    (λ e. by-pick Leaves (some (mapBool (λ b. eqb (getD (s .kinds) b 0) 0) bs)) _ _ (λ f. h)
-    (λ f. by-pick Leaves (both (not (eqb k 1)) (some (mapBool (λ b. inReception (word (s .mem)) (s .lens) b) bs))) _ _ (λ g. h)
-    (λ g. record {
+judge-kind-held b k s h =
+    let n = kindNumber b k (word (s .mem)) (s .lens) (s .kinds) in
+    let small : n ≡ 0 → leb k 4 ≡ true = λ z. kind-tests b k (word (s .mem)) (s .lens) (s .kinds) z .2 in
+    by-pick Leaves (eqb n 0) _ _
+    (λ e. record {
       size = h .size;
-      kinds = after-fits (s .kinds) bs k (leb-true k 4 (both-right (leb 1 k) (leb k 4) e)) (h .kinds);
+      kinds = set-keeps-fitKinds (s .kinds) b k (leb-true k 4 (small (eqb-true n 0 e))) (h .kinds);
       state = h .state;
       flags = h .flags;
       booked = h .booked;
-    })))
-    (λ e. h))
-    (λ d. h)
+    })
+    (λ e. h)
 
 -- ---- whole calls
 
@@ -316,7 +311,7 @@ guest-write-sound a v s f = of-held _ (admitted-held s (λ t. judge a v t) (λ t
 
 pub kind-change-sound : (b k : ℕ) → LeavesSound (λ s. kindChange b k s .world)
 unfolding kindChange
-kind-change-sound b k s f = of-held _ (admitted-held s (λ t. judgeKind (b ∷ []) k t) (judge-kind-held (b ∷ []) k) (held-of s f))
+kind-change-sound b k s f = of-held _ (admitted-held s (λ t. judgeKind b k t) (judge-kind-held b k) (held-of s f))
 
 -- the registers are no part of it
 read-sound : (c : List ℕ) → LeavesSound (called (read c))

@@ -20,7 +20,7 @@ use Rattle.book.specs.declared.Mode.{Mode}
 use Rattle.book.specs.HandOver.{Uses, takenFrom}
 use Rattle.book.specs.Release.{releasedAll}
 use Rattle.guard.specs.Judges.{isLast}
-use Rattle.queue.specs.Queue.{start, LinkedAll, Sole, Recorded, flat, starts, receiving, keptAll}
+use Rattle.queue.proofs.Queue.{start, LinkedAll, Sole, Recorded, flat, starts, receiving, keptAll}
 use Rattle.queue.proofs.LinkLaws.{all-left, all-right, start-zero}
 use Rattle.queue.proofs.SoleLaws.{count-append, flat-append, sole-perm, sole-apart, sole-pull}
 use Rattle.queue.proofs.KeptLaws.{kept-linked-all}

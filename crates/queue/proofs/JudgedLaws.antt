@@ -31,7 +31,7 @@ use Rattle.book.specs.HandOver.{Uses, recordOf, takeOne, takeStep, takenFrom}
 use Rattle.book.proofs.HandOverLaws.{taken-eq}
 use Rattle.chain.proofs.ChainLaws.{chain-eq}
 use Rattle.descriptor.proofs.RuleLaws.{sideAt-behind, ownFault-pass}
-use Rattle.queue.specs.Queue.{start, All, Linked, Sole, Recorded, flat, receiving, Unmet, addAll, takeAll, ownAt, behindAt, Fresh, RoomAt, Roomy}
+use Rattle.queue.proofs.Queue.{start, All, Linked, Sole, Recorded, flat, receiving, Unmet, addAll, takeAll, ownAt, behindAt, Fresh, RoomAt, Roomy}
 use Rattle.queue.proofs.LinkLaws.{linked-small}
 use Rattle.queue.proofs.SoleLaws.{sole-apart, apart-left}
 use Rattle.queue.proofs.RecordLaws.{None, apart-receiving-behind, gain, take-words, sole-add-all, take-other, take-there, recorded-take}

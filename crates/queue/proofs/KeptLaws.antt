@@ -21,7 +21,7 @@ use Rattle.book.specs.declared.Mode.the-variants.{Head, Packet, All as Whole}
 use Rattle.book.specs.declared.Plan.{Plan}
 use Rattle.book.specs.declared.Plan.the-variants.{Keep, Drop}
 use Rattle.book.specs.Release.{through, plan}
-use Rattle.queue.specs.Queue.{All, Linked, carry, kept, gone, keptAll, goneAll, LinkedAll}
+use Rattle.queue.proofs.Queue.{All, Linked, carry, kept, gone, keptAll, goneAll, LinkedAll}
 use Rattle.queue.proofs.LinkLaws.{all-every, linked-right}
 
 -- the two agree on word 3 of d

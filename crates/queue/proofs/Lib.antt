@@ -1,3 +1,4 @@
+pub mod Queue
 pub mod LinkLaws
 pub mod SoleLaws
 pub mod KeptLaws

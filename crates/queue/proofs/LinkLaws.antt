@@ -10,7 +10,7 @@ use mathlib.Core.Path.{_≡_, refl, ap, ap₂, _∙_, sym}
 use mathlib.Core.List.{List, [], _∷_, _++_}
 use mathlib.Core.Logic.{_≢_}
 use native.Mathlib.Omega.{arith}
-use Rattle.queue.specs.Queue.{start, All, Linked}
+use Rattle.queue.proofs.Queue.{start, All, Linked}
 
 -- ---- P of each
 

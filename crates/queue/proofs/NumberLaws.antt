@@ -20,7 +20,7 @@ use Rattle.layout.specs.Choice.{pick}
 use Rattle.layout.specs.Layout.{sideOf, channelOf, queueOf}
 use Rattle.layout.specs.declared.Side.the-variants.{Transmit, Receive}
 use Rattle.book.specs.declared.Mode.{Mode}
-use Rattle.queue.specs.Queue.{All, Linked, LinkedAll, Sole, count, flat, kept}
+use Rattle.queue.proofs.Queue.{All, Linked, LinkedAll, Sole, count, flat, kept}
 use Rattle.queue.proofs.LinkLaws.{all-left, all-right}
 use Rattle.queue.proofs.SoleLaws.{count-append, sole-perm, sole-apart}
 use Rattle.queue.proofs.KeptLaws.{kept-agree}

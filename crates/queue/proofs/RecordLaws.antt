@@ -31,7 +31,7 @@ use Rattle.words.specs.WordSet.{emptySet, addFour, dropFour}
 use Rattle.words.proofs.SetLaws.{length-emptySet, getD-emptySet}
 use Rattle.descriptor.specs.Fields.{lengthOf}
 use Rattle.book.specs.HandOver.{Uses, recordOf, takeOne, dropOne}
-use Rattle.queue.specs.Queue.{All, Off, Apart, Sole, Recorded, flat, receiving, Unmet, addAll, dropAll, takeAll}
+use Rattle.queue.proofs.Queue.{All, Off, Apart, Sole, Recorded, flat, receiving, Unmet, addAll, dropAll, takeAll}
 use Rattle.queue.proofs.LinkLaws.{all-left, all-right, all-join, all-map, all-mid}
 use Rattle.queue.proofs.SoleLaws.{count-append, sole-perm, sole-drop, sole-add, off-ne, apart-right, apart-back}
 

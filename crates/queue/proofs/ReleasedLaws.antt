@@ -21,7 +21,7 @@ use Rattle.book.specs.declared.Plan.the-variants.{Keep, Drop}
 use Rattle.book.specs.HandOver.{Uses, dropOne}
 use Rattle.book.specs.Release.{plan, planned, releaseStep, releasedFrom, releasedAll}
 use Rattle.book.proofs.ReleaseLaws.{released-eq}
-use Rattle.queue.specs.Queue.{start, All, Linked, LinkedAll, count, Sole, Recorded, flat, starts, receiving, carry, kept, gone, keptAll, goneAll, dropAll}
+use Rattle.queue.proofs.Queue.{start, All, Linked, LinkedAll, count, Sole, Recorded, flat, starts, receiving, carry, kept, gone, keptAll, goneAll, dropAll}
 use Rattle.queue.proofs.LinkLaws.{all-left, all-right, all-join}
 use Rattle.queue.proofs.SoleLaws.{count-append, sole-perm, sole-apart, sole-has}
 use Rattle.queue.proofs.KeptLaws.{gone-kept, kept-linked-all, kept-all-again, gone-all-again}

@@ -24,7 +24,7 @@ use Rattle.layout.specs.Choice.{pick}
 use Rattle.layout.proofs.ChoiceLaws.{clash, both-left, both-right}
 use Rattle.words.specs.WordSet.{emptySet, has, freeAt, addFour, dropFour}
 use Rattle.words.proofs.SetLaws.{length-addFour, length-dropFour, length-emptySet, getD-emptySet, getD-addFour-in, getD-addFour-out, getD-dropFour-in, getD-dropFour-out, has-false, has-yes, freeAt-is, freeAt-none, freeAt-yes}
-use Rattle.queue.specs.Queue.{All, Off, Apart, Outside, within, count, Sole, flat}
+use Rattle.queue.proofs.Queue.{All, Off, Apart, Outside, within, count, Sole, flat}
 use Rattle.queue.proofs.LinkLaws.{all-left, all-right, all-join, all-mid}
 
 -- ---- the four words of a descriptor

@@ -24,7 +24,7 @@ use Rattle.words.specs.WordSet.{emptySet, freeAt, addFour, freeCount}
 use Rattle.words.proofs.SetLaws.{freeCount-falls, getD-in, length-emptySet, getD-emptySet}
 use Rattle.book.proofs.SoundLaws.{walk-eq, firsts-eq}
 use Rattle.book.specs.Sound.{WSt, WOut, walkStep, walkFrom, walkAll, sameList, firstStep, firstsFrom, firstsAll, lengthFits, lengthsFit, sound}
-use Rattle.queue.specs.Queue.{start, All, Linked, LinkedAll, Off, Apart, count, Sole, Recorded, flat, starts, receiving, Unmet, addAll}
+use Rattle.queue.proofs.Queue.{start, All, Linked, LinkedAll, Off, Apart, count, Sole, Recorded, flat, starts, receiving, Unmet, addAll}
 use Rattle.queue.proofs.LinkLaws.{all-left, all-right, all-join, all-map, all-every, linked-small}
 use Rattle.queue.proofs.SoleLaws.{count-append, sole-perm, sole-unique, sole-empty, sole-add, sole-free, sole-apart, off-ne}
 use Rattle.queue.proofs.RecordLaws.{Fits, None, none-or, receiving-all, apart-receiving, sole-add-all}

@@ -80,7 +80,7 @@ fn zeroing_fault(v: u32) -> u8
 }
 
 // HDP of a queue.
-pub fn head_fault(awaiting: bool, reset: bool, tearing: bool, hdp: u32, v: u32) -> u8
+fn head_fault(awaiting: bool, reset: bool, tearing: bool, hdp: u32, v: u32) -> u8
     ensures { λ n. ⌜ n ≡ headFault awaiting reset tearing hdp v ⌝ }
 {
     if awaiting {
@@ -112,7 +112,7 @@ pub fn ack_fault(awaiting: bool, v: u32) -> u8
 }
 
 // TX_TEARDOWN or RX_TEARDOWN, of the queue that the value names.
-pub fn teardown_fault(awaiting: bool, reset: bool, tearing: bool, cp: u32, v: u32) -> u8
+fn teardown_fault(awaiting: bool, reset: bool, tearing: bool, cp: u32, v: u32) -> u8
     ensures { λ n. ⌜ n ≡ teardownFault awaiting reset tearing cp v ⌝ }
 {
     if awaiting {
@@ -134,7 +134,7 @@ pub fn teardown_fault(awaiting: bool, reset: bool, tearing: bool, cp: u32, v: u3
 }
 
 // CPDMA_SOFT_RESET; tearing: a teardown of any queue.
-pub fn reset_fault(awaiting: bool, reset: bool, tearing: bool, v: u32) -> u8
+fn reset_fault(awaiting: bool, reset: bool, tearing: bool, v: u32) -> u8
     ensures { λ n. ⌜ n ≡ resetFault awaiting reset tearing v ⌝ }
 {
     if awaiting {

@@ -1,2 +1,3 @@
 pub mod TagLaws
 pub mod PartLaws
+pub mod Settled

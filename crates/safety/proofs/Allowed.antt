@@ -1,9 +1,6 @@
 -- What the guard accepts, the controller's own rules allow: whatever the world, as long as what the rules read of its small state is
 -- the controller's. So an accepted write never makes the controller undefined, and guard and controller move together.
--- Assumes nothing.
---     Alike t c             the tables t and c say the same of registers and flags, which is all but heads
---     Agrees s c            the small state of the world s is alike the controller's table, and the controller is not undefined
---     Carried x t           the controller answers 0, and leaves the memory of the world t, and a table alike its small state
+-- `Alike`, `Agrees` and `Carried` are in specs/Follows.antt. Assumes nothing.
 --     marks-alike, .., fault-alike, written-alike   alike tables have the same faults, and are alike after a write
 --     write-memory, write-register    where a write that no guard has judged goes
 --     fault-holds           a choice by a fault's number
@@ -42,22 +39,9 @@ use Rattle.guard.specs.Answers.{numberOf, Outcome, accept, refuse}
 use Rattle.guard.specs.Judges.{judgeChain, judgeStart, judgeHead, judgeRegister, tailIn, judgeAppend, atTail, judgeLast, judgeWord, judgeClass, judge}
 use Rattle.controller.specs.declared.Controller.{Controller}
 use Rattle.controller.specs.Controller.{Moved, answer, unguardedWrite, registerWrite}
+use Rattle.safety.specs.Follows.{Alike, Agrees, Carried}
 
 -- ---- tables that say the same
-
-pub record Alike (t c : List ℕ) : Type 0 where
-  pub same : (k : ℕ) → queues ≤ k → k ≤ bitAt → getD t k 0 ≡ getD c k 0
-
-pub record Agrees (s : World) (c : Controller) : Type 0 where
-  pub alike : Alike (s .state) (c .state)
-  pub here : length (s .state) ≡ stateWords
-  pub there : length (c .state) ≡ stateWords
-  pub defined : c .undefined ≡ false
-
-pub record Carried (x : Moved) (t : World) : Type 0 where
-  pub number : x .number ≡ 0
-  pub mem : x .mem ≡ t .mem
-  pub alike : Alike (t .state) (x .ctl .state)
 
 alike-refl : (t : List ℕ) → Alike t t
 alike-refl t = record { same = λ k h g. refl }

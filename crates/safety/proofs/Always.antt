@@ -61,8 +61,8 @@ record Settled (s : Machine) (o : Outcome) : Type 0 where
   pub inv : Inv (withWorld (o .world) s)
   pub answered : numberOf (o .answer) ≢ 22
 
-kind-settled : (b k : ℕ) (s : Machine) → Calm s → Settled s (judgeKind (b ∷ []) k (bookOf s))
-kind-settled b k s c = at (judgeKind (b ∷ []) k (bookOf s)) (kind-verdict (b ∷ []) k (bookOf s)) (judgeKind-changed b k (bookOf s))
+kind-settled : (b k : ℕ) (s : Machine) → Calm s → Settled s (judgeKind b k (bookOf s))
+kind-settled b k s c = at (judgeKind b k (bookOf s)) (kind-verdict b k (bookOf s)) (judgeKind-changed b k (bookOf s))
   where
     at : (o : Outcome) → Verdict (bookOf s) o → KindOutcome b k (bookOf s) o → Settled s o
     at o (inl r) x = rw (r .is) (record { inv = calm-inv s c; answered = refuses-not (r .number) 22 (r .told) refl })
@@ -78,10 +78,10 @@ pub kind-kept : (b k : ℕ) (s : Machine) → Inv s → Kept (kind b k) s
 unfolding applyKind kindChange
 kind-kept b k s i = record { safe = record { defined = f .inv .defined; answered = f .answered; inPlace = tt; spares = tt }; inv = f .inv }
   where
-    f : Settled s (admitted (worldOf s) (λ t. judgeKind (b ∷ []) k t))
+    f : Settled s (admitted (worldOf s) (λ t. judgeKind b k t))
     f =
         let x = kind-settled b k (released s) (release-calm s i) in
-        subst (Settled s) (sym (admitted-acts s i (λ t. judgeKind (b ∷ []) k t))) (record { inv = x .inv; answered = x .answered })
+        subst (Settled s) (sym (admitted-acts s i (λ t. judgeKind b k t))) (record { inv = x .inv; answered = x .answered })
 
 -- ---- every operation, and every sequence
 

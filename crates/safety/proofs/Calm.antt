@@ -30,7 +30,7 @@ use Rattle.book.specs.declared.Mode.the-variants.{Head}
 use Rattle.book.specs.HandOver.{Uses}
 use Rattle.book.specs.Release.{resetOver, releasedFlags, withHeads}
 use Rattle.book.specs.World.{World, release}
-use Rattle.queue.specs.Queue.{All, LinkedAll, flat, starts, kept, keptAll, goneAll, dropAll}
+use Rattle.queue.proofs.Queue.{All, LinkedAll, flat, starts, kept, keptAll, goneAll, dropAll}
 use Rattle.queue.proofs.LinkLaws.{all-map, all-every}
 use Rattle.queue.proofs.SoleLaws.{sole-perm, sole-apart}
 use Rattle.queue.proofs.KeptLaws.{kept-live, kept-linked}

@@ -16,7 +16,7 @@ use Rattle.descriptor.specs.Fields.{eop, eoq, owner, td}
 use Rattle.descriptor.specs.declared.Place.{Place}
 use Rattle.descriptor.specs.declared.Place.the-variants.{Start, Middle, Buffer}
 use Rattle.book.specs.declared.Mode.{Mode}
-use Rattle.queue.specs.Queue.{start, All, kept, gone}
+use Rattle.queue.proofs.Queue.{start, All, kept, gone}
 use Rattle.queue.proofs.LinkLaws.{all-left, all-right, all-every}
 use Rattle.queue.proofs.KeptLaws.{NoEop, Live, gone-kept}
 use Rattle.queue.proofs.StoreLaws.{Same3}

@@ -13,8 +13,8 @@ use Rattle.layout.specs.declared.Side.the-variants.{Transmit}
 use Rattle.descriptor.specs.Rules.{sideAt}
 use Rattle.descriptor.specs.declared.Place.{Place}
 use Rattle.descriptor.specs.declared.Place.the-variants.{Start, Middle, Buffer}
-use Rattle.queue.specs.Queue.{start, Fresh}
-use Rattle.queue.specs.Queue as queue
+use Rattle.queue.proofs.Queue.{start, Fresh}
+use Rattle.queue.proofs.Queue as queue
 use Rattle.queue.proofs.LinkLaws.{all-join, start-append}
 use Rattle.queue.proofs.KeptLaws.{Live}
 use Rattle.queue.proofs.FreshLaws.{fresh-join}

@@ -5,7 +5,6 @@
 --     Changed b k s            what an accepted kind change has asked
 --     KindOutcome, judgeKind-changed   and it has; the world that it leaves
 --     kind-calm                a released machine stays one
---     isOwned kinds i          block i is Linux's
 --     ownership-kept           no operation changes whose a block is
 use Prim.Native.Nat.{ℕ, _≤_, _<_}
 use mathlib.Core.Path.{_≡_, refl, ap, _∙_, sym}
@@ -30,7 +29,7 @@ use Rattle.descriptor.specs.declared.Place.{Place}
 use Rattle.descriptor.specs.declared.Place.the-variants.{Start, Middle}
 use Rattle.descriptor.specs.Rules.{sideAt}
 use Rattle.book.specs.World.{World, setKinds, unfit, soundWorld, release}
-use Rattle.queue.specs.Queue.{All}
+use Rattle.queue.proofs.Queue.{All}
 use Rattle.queue.proofs.RecordLaws.{Fits}
 use Rattle.queue.proofs.RoomyLaws.{fresh-some, roomy-kind, room-now-kind}
 use Rattle.queue.proofs.NumberLaws.{queueAt}
@@ -39,11 +38,12 @@ use Rattle.guard.specs.declared.Effect.the-variants.{Plain}
 use Rattle.guard.specs.Answers.{numberOf, Outcome, accept, refuse}
 use Rattle.guard.specs.Judges.{judge}
 use Rattle.guard.specs.Guard.{admitted, guestWrite}
-use Rattle.kinds.specs.Kinds.{inReception, judgeKind, kindChange}
+use Rattle.kinds.specs.Kinds.{inReception, kindNumber, judgeKind, kindChange}
 use Rattle.phases.specs.declared.Sending.{Sending}
 use Rattle.phases.specs.declared.Sending.the-variants as S
 use Rattle.controller.specs.Controller.{unguardedWrite}
 use Rattle.machine.specs.Machine.{Machine, Happened, worldOf, withWorld, carriedOut, Op, write, kind, frame, step, apply, applyWrite, applyKind, applyFrame, applyStep}
+use Rattle.safety.specs.Follows.{isOwned}
 use Rattle.safety.proofs.Inv.{Sendable, placeAfter, Fetched, TxInv, Phase, sending, taking, phaseOf, Serves, RoomIn, postOf, wordsOf}
 use Rattle.safety.proofs.Frame.{ready-map, through-map}
 use Rattle.safety.proofs.Calm.{Calm, bookOf}
@@ -119,30 +119,27 @@ pub record KindOutcome (b k : ℕ) (s : World) (o : Outcome) : Type 0 where
 refuse-kind : (b k : ℕ) (s : World) (n : ℕ) → n ≢ 0 → KindOutcome b k s (refuse n s)
 refuse-kind b k s n h = record { changed = λ e. absurd (h e); world = λ e. absurd (h e) }
 
-pick-one : (t : Bool) → pick t true false ≡ t
-pick-one true = refl
-pick-one false = refl
-
-pub judgeKind-changed : (b k : ℕ) (s : World) → KindOutcome b k s (judgeKind (b ∷ []) k s)
-unfolding judgeKind
+pub judgeKind-changed : (b k : ℕ) (s : World) → KindOutcome b k s (judgeKind b k s)
+unfolding judgeKind kindNumber
 judgeKind-changed b k s = at _ _ _ _ refl refl refl refl
   where
-    at : (t1 t2 t3 t4 : Bool) → both (ltb b (length (s .kinds))) true ≡ t1 → both (leb 1 k) (leb k 4) ≡ t2
-        → pick (eqb (getD (s .kinds) b 0) 0) true false ≡ t3
-        → both (not (eqb k 1)) (pick (inReception (word (s .mem)) (s .lens) b) true false) ≡ t4
-        → KindOutcome b k s
-        (pick t1 (pick t2 (pick t3 (refuse 20 s) (pick t4 (refuse 21 s) (accept Plain (setKinds (set (s .kinds) b k) s)))) (refuse 19 s)) (refuse 18 s))
+    made : Outcome
+    made = accept Plain (setKinds (set (s .kinds) b k) s)
+
+    at : (t1 t2 t3 t4 : Bool) → ltb b (length (s .kinds)) ≡ t1 → both (leb 1 k) (leb k 4) ≡ t2 → eqb (getD (s .kinds) b 0) 0 ≡ t3
+        → both (not (eqb k 1)) (inReception (word (s .mem)) (s .lens) b) ≡ t4
+        → KindOutcome b k s (let n = pick t1 (pick t2 (pick t3 20 (pick t4 21 0)) 19) 18 in pick (eqb n 0) made (refuse n s))
     at false t2 t3 t4 p q r u = refuse-kind b k s 18 (omega arith)
     at true false t3 t4 p q r u = refuse-kind b k s 19 (omega arith)
     at true true true t4 p q r u = refuse-kind b k s 20 (omega arith)
     at true true false true p q r u = refuse-kind b k s 21 (omega arith)
     at true true false false p q r u = record {
       changed = λ e. record {
-        there = ltb-true b (length (s .kinds)) (both-left _ _ p);
+        there = ltb-true b (length (s .kinds)) p;
         low = leb-true 1 k (both-left _ _ q);
         high = leb-true k 4 (both-right (leb 1 k) (leb k 4) q);
-        owned = eqb-false (getD (s .kinds) b 0) 0 (sym (pick-one _) ∙ r);
-        clear = ap (λ (t : Bool). both (not (eqb k 1)) t) (sym (pick-one _)) ∙ u;
+        owned = eqb-false (getD (s .kinds) b 0) 0 r;
+        clear = u;
       };
       world = λ e. refl;
     }
@@ -186,9 +183,6 @@ kind-calm s c b k low high clear = record {
 
 -- ---- whose a block is: "Kinds 1 to 4 are owned by Linux"
 
-abbrev pub isOwned : List ℕ → ℕ → Bool
-isOwned kinds i = permits Transmit (getD kinds i 0)
-
 set-owned : (K : List ℕ) (b k i : ℕ) → b < length K → getD K b 0 ≢ 0 → 1 ≤ k → isOwned (set K b k) i ≡ isOwned K i
 set-owned K b k i l o h = at (eqb i b) refl
   where
@@ -207,8 +201,8 @@ admitted-owned s act i f =
     released : isOwned (release s .kinds) i ≡ isOwned (s .kinds) i
     released = ap (λ (K : List ℕ). isOwned K i) (release-kinds s)
 
-judgeKind-owned : (b k : ℕ) (s : World) (i : ℕ) → isOwned (judgeKind (b ∷ []) k s .world .kinds) i ≡ isOwned (s .kinds) i
-judgeKind-owned b k s i = at (judgeKind (b ∷ []) k s) (kind-verdict (b ∷ []) k s) (judgeKind-changed b k s)
+judgeKind-owned : (b k : ℕ) (s : World) (i : ℕ) → isOwned (judgeKind b k s .world .kinds) i ≡ isOwned (s .kinds) i
+judgeKind-owned b k s i = at (judgeKind b k s) (kind-verdict b k s) (judgeKind-changed b k s)
   where
     at : (o : Outcome) → Verdict s o → KindOutcome b k s o → isOwned (o .world .kinds) i ≡ isOwned (s .kinds) i
     at o (inl r) x = ap (λ (y : Outcome). isOwned (y .world .kinds) i) (r .is)
@@ -230,6 +224,6 @@ unfolding applyWrite applyKind applyFrame applyStep guestWrite kindChange
 ownership-kept (write a x) s i =
     ap (λ (K : List ℕ). isOwned K i) (carried-kinds a x (guestWrite a x (worldOf s)) s)
     ∙ admitted-owned (worldOf s) (λ t. judge a x t) i (λ t. ap (λ (K : List ℕ). isOwned K i) (judge-kinds a x t))
-ownership-kept (kind b k) s i = admitted-owned (worldOf s) (λ t. judgeKind (b ∷ []) k t) i (λ t. judgeKind-owned b k t i)
+ownership-kept (kind b k) s i = admitted-owned (worldOf s) (λ t. judgeKind b k t) i (λ t. judgeKind-owned b k t i)
 ownership-kept (frame n) s i = refl
 ownership-kept (step e) s i = refl

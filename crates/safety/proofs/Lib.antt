@@ -23,4 +23,5 @@ pub mod Writes
 pub mod RegisterWrites
 pub mod Numbers
 pub mod Always
+pub mod Handed
 pub mod What

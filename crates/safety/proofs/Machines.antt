@@ -23,7 +23,7 @@ use Rattle.words.specs.WordSet.{emptySet}
 use Rattle.blocks.specs.Kinds.{fitKinds}
 use Rattle.registers.specs.Table.{stateWords, hdpAt, cpAt, flagsFit, hdpOf, tearingOf, awaiting, resetOf, bitOf}
 use Rattle.registers.proofs.TableLaws.{bit-none}
-use Rattle.queue.specs.Queue.{start, Linked, Recorded, kept}
+use Rattle.queue.proofs.Queue.{start, Linked, Recorded, kept}
 use Rattle.queue.proofs.SoleLaws.{sole-empty}
 use Rattle.queue.proofs.RecordLaws.{recorded-empty}
 use Rattle.queue.proofs.FreshLaws.{fresh-live}

@@ -29,7 +29,7 @@ use Rattle.marks.specs.Marks.{marked, lastMarked}
 use Rattle.marks.proofs.MarkLaws.{word-marked-same, length-marked, marked-keeps-bytes, length-lastMarked, lastMarked-keeps-bytes}
 use Rattle.registers.specs.Rules.{teardownDone}
 use Rattle.book.specs.declared.Mode.{Mode}
-use Rattle.queue.specs.Queue.{Sole, kept, gone, count, flat}
+use Rattle.queue.proofs.Queue.{Sole, kept, gone, count, flat}
 use Rattle.queue.proofs.SoleLaws.{count-append, sole-perm, sole-has}
 use Rattle.queue.proofs.KeptLaws.{gone-kept}
 use Rattle.queue.proofs.StoreLaws.{Only}

@@ -2,6 +2,7 @@
 -- controller adds no 22 of its own. Assumes nothing.
 --     admitted-acts                  a guard call is judged on the released book, never answered 1 or 2
 --     guest-number, change-number    the guard's answer to a guest write and to a kind change
+--     agrees                         what the guard sees of the released machine is the controller's
 --     answer-is                      the machine's answer to a guest write is the guard's
 --     write-number, kind-number      so of any machine with the invariant
 use Prim.Native.Nat.{ℕ}
@@ -20,11 +21,12 @@ use Rattle.guard.specs.Guard.{admitted, guestWrite}
 use Rattle.kinds.specs.Kinds.{judgeKind, kindChange}
 use Rattle.controller.specs.Controller.{unguardedWrite}
 use Rattle.machine.specs.Machine.{Machine, write, kind, apply, applyWrite, applyKind, worldOf, carriedOut}
+use Rattle.safety.specs.Follows.{refusals, isIn, Refuses, Number, Agrees}
 use Rattle.safety.proofs.Inv.{Inv}
 use Rattle.safety.proofs.Calm.{released, release-calm, release-loaded}
 use Rattle.safety.proofs.Twice.{never-unfit, never-unsound}
-use Rattle.safety.proofs.Refusals.{refusals, isIn, Refuses, Number, Verdict, judge-verdict, kind-verdict}
-use Rattle.safety.proofs.Allowed.{Agrees, allowed}
+use Rattle.safety.proofs.Refusals.{Verdict, judge-verdict, kind-verdict}
+use Rattle.safety.proofs.Allowed.{allowed}
 use Rattle.safety.proofs.Registers.{calm-alike}
 
 -- ---- the guard
@@ -55,7 +57,7 @@ pub change-number : (b k : ℕ) (s : Machine) → Inv s → Number (numberOf (ki
 unfolding kindChange
 change-number b k s i =
     let t = release (worldOf s) in
-    rw (admitted-acts s i (λ t. judgeKind (b ∷ []) k t)) (verdict-number t (judgeKind (b ∷ []) k t) (kind-verdict (b ∷ []) k t))
+    rw (admitted-acts s i (λ t. judgeKind b k t)) (verdict-number t (judgeKind b k t) (kind-verdict b k t))
 
 -- ---- the machine
 
@@ -69,7 +71,7 @@ carried-answer a x o s f = at (eqb (numberOf (o .answer)) 0) refl
     at false e = rw e refl
 
 -- what the guard sees of the released machine is the controller's
-agrees : (s : Machine) → Inv s → Agrees (release (worldOf s)) (s .ctl)
+pub agrees : (s : Machine) → Inv s → Agrees (release (worldOf s)) (s .ctl)
 agrees s i =
     let c = release-calm s i in
     record { alike = calm-alike (released s) c (release-loaded s i); here = c .sized .book .size; there = c .sized .ctl .size; defined = c .defined }

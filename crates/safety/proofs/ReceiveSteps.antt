@@ -30,7 +30,7 @@ use Rattle.descriptor.specs.declared.Place.the-variants.{Buffer}
 use Rattle.descriptor.proofs.RuleLaws.{flagsFault-buffer, ownFault-parts}
 use Rattle.marks.proofs.MarkLaws.{word-lastMarked-flags}
 use Rattle.marks.proofs.FlagLaws.{eop-lastMark, eoq-lastMark, owner-lastMark, td-lastMark, owner-firstMark, eop-firstMark, eoq-firstMark, td-firstMark, firstMark-lt}
-use Rattle.queue.specs.Queue.{start, Linked}
+use Rattle.queue.proofs.Queue.{start, Linked}
 use Rattle.queue.proofs.LinkLaws.{all-right}
 use Rattle.queue.proofs.StoreLaws.{last-marked-only}
 use Rattle.queue.proofs.FreshLaws.{length-fits, behind-buffer, fetch-good}

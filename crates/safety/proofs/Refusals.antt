@@ -1,13 +1,10 @@
 -- What a guard call that is refused leaves, whatever the world: "After 1, 2 .. nothing changes; .. after any other refusal of a
--- guard call only the release below has happened". Assumes nothing.
---     refusals              the numbers that a judge may refuse with: a computed test tells them from all others
---     Refuses n, Number n   n is one of them; or 0
+-- guard call only the release below has happened". What is said of it is in specs/Follows.antt. Assumes nothing.
 --     refuses-not           a number that is not among them
 --     Refusal s o           o refuses with such a number and leaves the world s as it is
 --     Verdict s o           o refuses so, or accepts
 --     judge-verdict, kind-verdict     every judge gives a verdict
 --     release-kinds         the release touches no kind
---     Untouched s o         descriptor memory, kinds and registers are those of s, and the book is what the release makes of it
 --     refused-write, refused-kind     a refused call leaves the released world: for every world, after any number but 1 and 2
 --     unchanged-write, unchanged-kind and after 1 and 2 nothing has changed at all
 use Prim.Native.Nat.{ℕ, zero, suc, _+_, _-_, _/_, _%_, _≤_}
@@ -19,7 +16,7 @@ use native.Mathlib.Omega.{arith}
 use lib.ListN.{length, getD}
 use lib.Dec.{eqb, ltb, leb}
 use borrow.Author.Tests.{ltb-true, ltb-false}
-use Rattle.layout.specs.Choice.{pick, both, orElse, every, some}
+use Rattle.layout.specs.Choice.{pick, both, orElse}
 use Rattle.layout.specs.Run.{Next, go, stop, after, runFor, run}
 use Rattle.layout.specs.Layout.{descFirst, addressEnd, goodPtr, wordOf, inDescriptors, channels, queues, sideOf}
 use Rattle.layout.specs.Class.{classAt, hdpClass}
@@ -49,23 +46,10 @@ use Rattle.guard.specs.Judges.{judgeChain, judgeStart, judgeHead, judgeRegister
 use Rattle.guard.specs.declared.Tail.{Tail}
 use Rattle.guard.specs.declared.Tail.the-variants.{Of, Nobody}
 use Rattle.guard.specs.Guard.{admitted, guestWrite}
-use Rattle.kinds.specs.Kinds.{judgeKind, kindChange, mapBool, inReception}
+use Rattle.kinds.specs.Kinds.{inReception, kindNumber, judgeKind, kindChange}
+use Rattle.safety.specs.Follows.{refusals, isIn, Refuses, Number, Untouched}
 
 -- ---- the numbers
-
--- "The lowest number that applies is given": those of a judge; 1 and 2 come before it, 22 to 24 are the model's
-abbrev pub refusals : List ℕ
-refusals = 3 ∷ 4 ∷ 5 ∷ 6 ∷ 7 ∷ 8 ∷ 9 ∷ 10 ∷ 11 ∷ 12 ∷ 13 ∷ 14 ∷ 15 ∷ 16 ∷ 17 ∷ 18 ∷ 19 ∷ 20 ∷ 21 ∷ []
-
-abbrev pub isIn : ℕ → List ℕ → Bool
-isIn n [] = false
-isIn n (x ∷ xs) = pick (eqb n x) true (isIn n xs)
-
-abbrev pub Refuses : ℕ → Type 0
-Refuses n = isIn n refusals ≡ true
-
-abbrev pub Number : ℕ → Type 0
-Number n = isIn n (0 ∷ refusals) ≡ true
 
 pub refuses-not : (n k : ℕ) → Refuses n → isIn k refusals ≡ false → n ≢ k
 refuses-not n k r e z = clash r (ap (λ (x : ℕ). isIn x refusals) z ∙ e)
@@ -291,26 +275,22 @@ judge-verdict a v s =
     (verdict-pick s (inDescriptors a) _ _ (word-verdict ((a - descFirst) / 4) v s) (class-verdict (classAt a) v s))
     (refused s 3 refl)
 
-pub kind-verdict : (bs : List ℕ) (k : ℕ) (s : World) → Verdict s (judgeKind bs k s)
+kindNumber-number : (b k : ℕ) (w : ℕ → ℕ) (lens kinds : List ℕ) → Number (kindNumber b k w lens kinds)
+unfolding kindNumber
+kindNumber-number b k w lens kinds =
+    pick-number (ltb b (length kinds)) _ _
+    (pick-number (both (leb 1 k) (leb k 4)) _ _
+    (pick-number (eqb (getD kinds b 0) 0) _ _ refl (pick-number (both (not (eqb k 1)) (inReception w lens b)) _ _ refl refl))
+    refl)
+    refl
+
+pub kind-verdict : (b k : ℕ) (s : World) → Verdict s (judgeKind b k s)
 unfolding judgeKind
-kind-verdict bs k s =
-    verdict-pick s (every (mapBool (λ b. ltb b (length (s .kinds))) bs)) _ _
-    (verdict-pick s (both (leb 1 k) (leb k 4)) _ _
-    (verdict-pick s (some (mapBool (λ b. eqb (getD (s .kinds) b 0) 0) bs)) _ _ (refused s 20 refl)
-    (verdict-pick s (both (not (eqb k 1)) (some (mapBool (λ b. inReception (word (s .mem)) (s .lens) b) bs))) _ _ (refused s 21 refl) (accepted s _ _)))
-    (refused s 19 refl))
-    (refused s 18 refl)
+kind-verdict b k s =
+    let w = word (s .mem) in
+    verdict-fault s (kindNumber b k w (s .lens) (s .kinds)) _ (kindNumber-number b k w (s .lens) (s .kinds)) (accepted s _ _)
 
 -- ---- a whole call
-
--- only the release has happened: it changes nothing but the book, and in the small state no register
-pub record Untouched (s : World) (o : Outcome) : Type 0 where
-  pub mem : o .world .mem ≡ s .mem
-  pub kinds : o .world .kinds ≡ s .kinds
-  pub registers : (k : ℕ) → isDevice k ≡ true → getD (o .world .state) k 0 ≡ getD (s .state) k 0
-  pub state : o .world .state ≡ release s .state
-  pub used : o .world .used ≡ release s .used
-  pub lens : o .world .lens ≡ release s .lens
 
 pub release-kinds : (s : World) → release s .kinds ≡ s .kinds
 unfolding release
@@ -375,7 +355,7 @@ write-leaves a v s = admitted-leaves s (λ t. judge a v t) (judge-verdict a v)
 
 kind-leaves : (b k : ℕ) (s : World) → Leaves s (kindChange b k s)
 unfolding kindChange
-kind-leaves b k s = admitted-leaves s (λ t. judgeKind (b ∷ []) k t) (kind-verdict (b ∷ []) k)
+kind-leaves b k s = admitted-leaves s (λ t. judgeKind b k t) (kind-verdict b k)
 
 -- "after any other refusal of a guard call only the release below has happened"
 pub refused-write : (a v : ℕ) (s : World) → numberOf (guestWrite a v s .answer) ≢ 0 → numberOf (guestWrite a v s .answer) ≢ 1

@@ -36,10 +36,11 @@ use Rattle.phases.specs.declared.Receiving.{Receiving}
 use Rattle.phases.specs.declared.Receiving.the-variants as R
 use Rattle.controller.specs.Controller.{stageOf, setState, startsEngine}
 use Rattle.machine.specs.Machine.{Machine}
+use Rattle.safety.specs.Follows.{Alike}
 use Rattle.safety.proofs.Inv.{TxInv, idleTx, RxInv, idleRx, Phase, sending, taking, phaseOf, idle, Serves, postOf, commonOf, wordsOf, Table}
 use Rattle.safety.proofs.Touch.{phase-channels, table-fits, fits-table}
 use Rattle.safety.proofs.Calm.{Duty, Calm, Loaded}
-use Rattle.safety.proofs.Allowed.{Alike, marks-alike, tearings-alike, reset-alike, written-alike}
+use Rattle.safety.proofs.Allowed.{marks-alike, tearings-alike, reset-alike, written-alike}
 
 -- ---- an idle engine
 

@@ -26,7 +26,7 @@ use Rattle.registers.proofs.TableLaws.{length-setHead, headOf-setHead-same, hea
 use Rattle.registers.proofs.RegisterLaws.{byClass-head, headWritten-set, headFault-none}
 use Rattle.chain.specs.Chain.{placeOf}
 use Rattle.guard.specs.Judges.{judgeChain, started}
-use Rattle.queue.specs.Queue.{start, All, Linked}
+use Rattle.queue.proofs.Queue.{start, All, Linked}
 use Rattle.queue.proofs.LinkLaws.{all-every, start-zero}
 use Rattle.queue.proofs.StoreLaws.{Same3}
 use Rattle.queue.proofs.JudgedLaws.{Judged, judged-list}

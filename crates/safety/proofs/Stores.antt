@@ -22,7 +22,7 @@ use Rattle.registers.specs.Table.{headOf}
 use Rattle.chain.specs.Chain.{placeOf}
 use Rattle.book.specs.HandOver.{Uses, recordOf, takenFrom}
 use Rattle.guard.specs.Judges.{judgeChain, isLast}
-use Rattle.queue.specs.Queue.{start, All, Linked, Sole, Recorded, flat, receiving}
+use Rattle.queue.proofs.Queue.{start, All, Linked, Sole, Recorded, flat, receiving}
 use Rattle.queue.proofs.LinkLaws.{all-join, all-map, linked-same}
 use Rattle.queue.proofs.SoleLaws.{count-append, sole-perm, sole-apart}
 use Rattle.queue.proofs.StoreLaws.{Same, Same3, sames-three, same-nexts}

@@ -36,7 +36,7 @@ use Rattle.registers.specs.Table.{marksOf, tearingsOf, tearingOf, resetOf, bitO
 use Rattle.registers.specs.Rules.{teardownDone}
 use Rattle.registers.proofs.TableLaws.{bit-none, awaiting-bit, hdpOf-setHdp-same, cpOf-setHdp, marksOf-setHdp, tearingOf-setHdp, length-setCp, cpOf-setCp-same, hdpOf-setCp, marksOf-setCp, hdpOf-setTearings, cpOf-setTearings, marksOf-setTearings, tearingOf-clearTearing-same, length-setResetBit, bitOf-setResetBit, hdpOf-setResetBit, cpOf-setResetBit, marksOf-setResetBit, awaiting-setResetBit, tearingOf-setResetBit, resetOf-setResetBit, length-unmarked, hdpOf-unmarked, cpOf-unmarked, marksOf-unmarked, awaiting-unmarked, tearingOf-unmarked, resetOf-unmarked, flagsFit-setResetBit, flagsFit-unmarked}
 use Rattle.book.specs.declared.Mode.the-variants.{Head, All as Whole}
-use Rattle.queue.specs.Queue.{start, Linked, kept}
+use Rattle.queue.proofs.Queue.{start, Linked, kept}
 use Rattle.queue.proofs.KeptLaws.{kept-torn, kept-whole}
 use Rattle.queue.proofs.StoreLaws.{marked-only}
 use Rattle.queue.proofs.NumberLaws.{getD-same, queueAt}

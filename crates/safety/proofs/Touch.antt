@@ -37,7 +37,7 @@ use Rattle.registers.specs.Table.{stateWords, hdpOf, cpOf, marksOf, tearingOf, 
 use Rattle.registers.proofs.TableLaws.{length-setHdp, hdpOf-setHdp-same, hdpOf-setHdp-other, cpOf-setHdp, marksOf-setHdp, tearingOf-setHdp, resetOf-setHdp, bitOf-setHdp, length-setCp, cpOf-setCp-same, cpOf-setCp-other, hdpOf-setCp, marksOf-setCp, tearingOf-setCp, resetOf-setCp, bitOf-setCp, length-setTearings, hdpOf-setTearings, cpOf-setTearings, marksOf-setTearings, resetOf-setTearings, bitOf-setTearings, tearingOf-clearTearing-other, flagsFit-bounds, bounds-flagsFit, flagsFit-setHdp, flagsFit-setCp, flagsFit-clearTearing}
 use Rattle.book.specs.declared.Mode.{Mode}
 use Rattle.book.specs.declared.Mode.the-variants.{Head, All as Whole}
-use Rattle.queue.specs.Queue.{All, Linked, flat, kept}
+use Rattle.queue.proofs.Queue.{All, Linked, flat, kept}
 use Rattle.queue.proofs.LinkLaws.{all-join, all-map, all-every, linked-same}
 use Rattle.queue.proofs.StoreLaws.{Same, Same3, sames-three, same-nexts, Only, Change}
 use Rattle.queue.proofs.RoomyLaws.{room-now-same}

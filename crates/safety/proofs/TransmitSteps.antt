@@ -28,7 +28,7 @@ use Rattle.descriptor.specs.declared.Place.the-variants.{Start, Middle, Buffer}
 use Rattle.descriptor.proofs.RuleLaws.{ownFault-parts}
 use Rattle.marks.proofs.FlagLaws.{eoq-eoqMark, eop-eoqMark, owner-eoqMark, td-eoqMark, eoqMark-lt, owner-ownerMark, eop-ownerMark, eoq-ownerMark, td-ownerMark, ownerMark-lt}
 use Rattle.registers.specs.Table.{tearingOf, resetOf}
-use Rattle.queue.specs.Queue.{start, Linked, Fresh}
+use Rattle.queue.proofs.Queue.{start, Linked, Fresh}
 use Rattle.queue.proofs.StoreLaws.{marked-only}
 use Rattle.queue.proofs.FreshLaws.{own-ends, LengthFits, length-fits, fetch-good, fresh-live}
 use Rattle.phases.specs.declared.Burst.the-variants.{Quiet, Read}

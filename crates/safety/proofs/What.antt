@@ -1,15 +1,5 @@
 -- What follows from the invariant, for every machine that has it and so after every legal sequence from a fresh start.
--- Assumes nothing.
---     Alone s t            t is s with nothing but its book released
---     Follows s            the consequences, of one machine:
---       writes, changes      answers 1 and 2 never occur: a guard call answers 0, or 3 to 21
---       innerWrite, innerKind   release and judge alone, without the checks behind 1 and 2, give what the full call gives
---       refusedWrite, refusedKind   a refused guard call leaves memory, registers and kinds, and the book as the release makes it
---       ownership            no operation changes whose a block is
---       zeroTransmit, zeroReceive   an HDP of 0 is an idle engine, on each channel
---       idleTransmit, idleReceive   and an idle engine has an empty queue, once the release has run
---       once                 the release is idempotent
---       sound, stays         the book is sound, and a guard call on it, as any operation, leaves a sound one
+-- The consequences are `Follows` in specs/Follows.antt. Assumes nothing.
 --     inv-follows          the invariant gives them
 --     follows-always       every sequence from a fresh start does
 --     entries-agree        what two functions give that promise the same outcome is the same: the inner and the full entry do
@@ -26,7 +16,7 @@ use Rattle.layout.proofs.PointerLaws.{goodPtr-bounds}
 use Rattle.blocks.specs.Kinds.{fitKinds}
 use Rattle.registers.specs.Table.{headOf, hdpOf}
 use Rattle.book.specs.World.{soundWorld, release}
-use Rattle.queue.specs.Queue.{start}
+use Rattle.queue.proofs.Queue.{start}
 use Rattle.guard.specs.declared.Answer.{Answer}
 use Rattle.guard.specs.Answers.{Outcome, numberOf, Gives}
 use Rattle.guard.specs.Judges.{judge}
@@ -39,39 +29,17 @@ use Rattle.phases.specs.declared.Receiving.the-variants as R
 use Rattle.controller.specs.Controller.{txOf, rxOf}
 use Rattle.machine.specs.Machine.{Machine, Op, write, kind, apply, runOps, worldOf, carriedOut, applyWrite, applyKind, freshMachine}
 use Rattle.safety.specs.Statement.{Legal, AllLegal}
+use Rattle.safety.specs.Follows.{Number, Untouched, Alone, isOwned, Follows}
 use Rattle.safety.proofs.Inv.{TxInv, RxInv, Inv}
 use Rattle.safety.proofs.Marks.{queue-lt, phase-queue}
 use Rattle.safety.proofs.Machines.{fresh-inv}
 use Rattle.safety.proofs.Calm.{release-calm}
 use Rattle.safety.proofs.Twice.{release-twice, never-unsound}
-use Rattle.safety.proofs.Refusals.{Number, number-not, Untouched, refused-write, refused-kind}
+use Rattle.safety.proofs.Refusals.{number-not, refused-write, refused-kind}
 use Rattle.safety.proofs.Numbers.{admitted-acts, answer-is, guest-number, change-number, write-number, kind-number}
-use Rattle.safety.proofs.KindChanges.{isOwned, ownership-kept}
+use Rattle.safety.proofs.KindChanges.{ownership-kept}
 use Rattle.safety.proofs.Always.{apply-inv, run-inv}
-
-pub record Alone (s t : Machine) : Type 0 where
-  pub ctl : t .ctl ≡ s .ctl
-  pub mem : t .mem ≡ s .mem
-  pub kinds : t .kinds ≡ s .kinds
-  pub state : t .state ≡ release (worldOf s) .state
-  pub used : t .used ≡ release (worldOf s) .used
-  pub lens : t .lens ≡ release (worldOf s) .lens
-
-pub record Follows (s : Machine) : Type 0 where
-  pub writes : (a x : ℕ) → Number (numberOf (apply (write a x) s .answer))
-  pub changes : (b k : ℕ) → Number (numberOf (apply (kind b k) s .answer))
-  pub innerWrite : (a x : ℕ) → judge a x (release (worldOf s)) ≡ guestWrite a x (worldOf s)
-  pub innerKind : (b k : ℕ) → judgeKind (b ∷ []) k (release (worldOf s)) ≡ kindChange b k (worldOf s)
-  pub refusedWrite : (a x : ℕ) → numberOf (apply (write a x) s .answer) ≢ 0 → Alone s (apply (write a x) s .machine)
-  pub refusedKind : (b k : ℕ) → numberOf (apply (kind b k) s .answer) ≢ 0 → Alone s (apply (kind b k) s .machine)
-  pub ownership : (o : Op) (i : ℕ) → isOwned (apply o s .machine .kinds) i ≡ isOwned (s .kinds) i
-  pub zeroTransmit : (c : ℕ) → c < channels → hdpOf (s .ctl .state) (queueOf Transmit c) ≡ 0 → txOf (s .ctl) c ≡ S.Idle
-  pub zeroReceive : (c : ℕ) → c < channels → hdpOf (s .ctl .state) (queueOf Receive c) ≡ 0 → rxOf (s .ctl) c ≡ R.Idle
-  pub idleTransmit : (c : ℕ) → c < channels → txOf (s .ctl) c ≡ S.Idle → headOf (release (worldOf s) .state) (queueOf Transmit c) ≡ 0
-  pub idleReceive : (c : ℕ) → c < channels → rxOf (s .ctl) c ≡ R.Idle → headOf (release (worldOf s) .state) (queueOf Receive c) ≡ 0
-  pub once : release (release (worldOf s)) ≡ release (worldOf s)
-  pub sound : soundWorld (worldOf s) ≡ true
-  pub stays : (o : Op) → Legal o → soundWorld (worldOf (apply o s .machine)) ≡ true
+use Rattle.safety.proofs.Handed.{handed-write, handed-kind}
 
 -- ---- refusals, of the machine
 
@@ -162,9 +130,11 @@ inv-follows s i = record {
   writes = λ a x. write-number a x s i;
   changes = λ b k. kind-number b k s i;
   innerWrite = λ a x. sym (admitted-acts s i (λ t. judge a x t));
-  innerKind = λ b k. sym (admitted-acts s i (λ t. judgeKind (b ∷ []) k t));
+  innerKind = λ b k. sym (admitted-acts s i (λ t. judgeKind b k t));
   refusedWrite = refused-write-alone s i;
   refusedKind = refused-kind-alone s i;
+  handedWrite = λ a x l. handed-write a x (l .1) s i;
+  handedKind = λ b k. handed-kind b k s i;
   ownership = λ o j. ownership-kept o s j;
   zeroTransmit = transmits s i;
   zeroReceive = receives s i;

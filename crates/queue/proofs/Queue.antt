@@ -15,7 +15,7 @@
 --     ownAt, behindAt      the rules of one descriptor at a place, and the place behind it
 --     Fresh w pl ds        still to be fetched from a place on: no fault, and the end is not inside a packet
 --     Roomy kinds side w ds   every block that a buffer touches permits it
--- Laws: proofs/. Assumes nothing: these are definitions.
+-- No promise and no statement speaks of them. Laws: the files beside this one. Assumes nothing: these are definitions.
 use Prim.Native.Nat.{ℕ, _+_, _≤_, _<_}
 use mathlib.Core.Path.{_≡_}
 use mathlib.Core.Logic.{_⊎_, _≢_}
