@@ -5,11 +5,11 @@ use mathlib.Core.Path.{_≡_, ap, _∙_}
 use mathlib.Core.List.{List}
 use Rattle.guard.specs.declared.Answer.{Answer}
 use Rattle.guard.specs.Answers.{Outcome, Gives}
-use Rattle.api.specs.Crossing.{packed, Crosses}
+use Rattle.api.specs.Crossing.{answerWord, Crosses}
 
-pub crosses : {o : Outcome} {a : Answer} {n : ℕ} {m k t u l : List ℕ} → Gives o a m k t u l → n ≡ packed a → Crosses o n m k t u l
+pub crosses : {o : Outcome} {a : Answer} {n : ℕ} {m k t u l : List ℕ} → Gives o a m k t u l → n ≡ answerWord a → Crosses o n m k t u l
 crosses g e = record {
-  answer = e ∙ ap packed (g .answer);
+  answer = e ∙ ap answerWord (g .answer);
   mem = g .mem;
   kinds = g .kinds;
   state = g .state;

@@ -22,7 +22,7 @@ ghost use Rattle.book.specs.World.{unfit, soundWorld, freshState, freshUsed, fr
 ghost use Rattle.guard.specs.Answers.{worldAt, numberOfSide};
 ghost use Rattle.guard.specs.Guard.{guestWrite};
 ghost use Rattle.kinds.specs.Kinds.{kindChange};
-ghost use Rattle.api.specs.Crossing.{packed, Crosses};
+ghost use Rattle.api.specs.Crossing.{answerWord, Crosses};
 
 // What was done, as it stands in an answer.
 const PLAIN: u32 = 256;
@@ -44,7 +44,7 @@ fn pack_place(s: Side, c: u8) -> u32
 
 // An answer in one number.
 fn pack(a: Answer) -> u32
-    ensures { λ r. ⌜ r ≡ packed a ⌝ }
+    ensures { λ r. ⌜ r ≡ answerWord a ⌝ }
 {
     match a {
         Answer::Accepted(e) => match e {

@@ -20,7 +20,7 @@ use Rattle.registers.specs.Table.{awaiting, anyTearing, resetOf, bitOf, flagsFi
 use Rattle.registers.specs.Rules.{headFault, ackFault, teardownFault, resetFault, zeroFault, tearQueue, byClass, registerFault, headWritten, ackWritten, written}
 use Rattle.chain.specs.Chain.{blockFault, descFault, judgeStep, chainOf}
 use Rattle.book.specs.Sound.{walkStep, walkFrom, walkAll, firstStep, firstsFrom, sound}
-use Rattle.book.specs.HandOver.{takeOne, dropOne, takeStep, takenFrom}
+use Rattle.book.specs.HandOver.{takeOne, dropOne, handOverStep, takenFrom}
 use Rattle.book.specs.Release.{plan, releaseStep, releasedFrom, releasedAll, releasedFlags, releasedHeads, releasedBook}
 use Rattle.book.specs.World.{fitParts, unfit, soundBook, soundWorld, release}
 use Rattle.guard.specs.Answers.{answerTo}
@@ -35,17 +35,17 @@ use Rattle.cases.specs.Scene.{ready}
 use Rattle.beliefs.specs.Beliefs.{numberFor, releasedEarly, EmptyQueue, shrunk, LengthNow, latchedZero, leftBehind, LateAppend, codeLeft, tearing, OldCode}
 
 pub no-empty-queue-idle : EmptyQueue
-unfolding setBit clearBit run sideOf goodPtr wordOf inDescriptors ruleOf classOf classAt wordAt putWord word put emptySet has freeAt addFour dropFour freeCount inUse view fitKinds roomFor roomOf touches sop eop owner eoq td packetLength lengthOf offsetOf firstByte flagsFault lengthFault endFault sumFault behind nextFault ownFault fetchFault putLength marked lastMarked awaiting anyTearing resetOf bitOf flagsFit loaded headFault ackFault teardownFault resetFault zeroFault tearQueue byClass registerFault headWritten ackWritten written blockFault descFault judgeStep chainOf walkStep walkFrom walkAll firstStep firstsFrom sound takeOne dropOne takeStep takenFrom plan releaseStep releasedFrom releasedAll releasedFlags releasedHeads releasedBook fitParts unfit soundBook soundWorld release answerTo judgeHead judgeRegister lastOf isLast judgeAppend judgeLast judgeWord judgeClass judge admitted guestWrite inReception kindNumber judgeKind kindChange fetch readBurst close markEoq octetsOf clearOwn finish sendStep transmitStep receiveStep tearMark tearStep resetStep stepOf frameOf registerWrite unguardedWrite freshController applyWrite applyKind applyFrame applyStep freshMachine rxFetch rxStore rxClose rxMarkLast rxMarkFirst rxFinish rxStep ready numberFor releasedEarly
+unfolding setBit clearBit run sideOf goodPtr wordOf inDescriptors ruleOf classOf classAt wordAt putWord word put emptySet has freeAt addFour dropFour freeCount inUse view fitKinds roomFor roomOf touches sop eop owner eoq td packetLength lengthOf offsetOf firstByte flagsFault lengthFault endFault sumFault behind nextFault ownFault fetchFault putLength marked lastMarked awaiting anyTearing resetOf bitOf flagsFit loaded headFault ackFault teardownFault resetFault zeroFault tearQueue byClass registerFault headWritten ackWritten written blockFault descFault judgeStep chainOf walkStep walkFrom walkAll firstStep firstsFrom sound takeOne dropOne handOverStep takenFrom plan releaseStep releasedFrom releasedAll releasedFlags releasedHeads releasedBook fitParts unfit soundBook soundWorld release answerTo judgeHead judgeRegister lastOf isLast judgeAppend judgeLast judgeWord judgeClass judge admitted guestWrite inReception kindNumber judgeKind kindChange fetch readBurst close markEoq octetsOf clearOwn finish sendStep transmitStep receiveStep tearMark tearStep resetStep stepOf frameOf registerWrite unguardedWrite freshController applyWrite applyKind applyFrame applyStep freshMachine rxFetch rxStore rxClose rxMarkLast rxMarkFirst rxFinish rxStep ready numberFor releasedEarly
 no-empty-queue-idle = record { empty = refl; free = refl; rewritten = refl; busy = refl; standing = refl; refused = refl; accepted = refl }
 
 pub no-length-now : LengthNow
-unfolding setBit clearBit run sideOf goodPtr wordOf inDescriptors ruleOf classOf classAt wordAt putWord word put emptySet has freeAt addFour dropFour freeCount inUse view fitKinds roomFor roomOf touches sop eop owner eoq td packetLength lengthOf offsetOf firstByte flagsFault lengthFault endFault sumFault behind nextFault ownFault fetchFault putLength marked lastMarked awaiting anyTearing resetOf bitOf flagsFit loaded headFault ackFault teardownFault resetFault zeroFault tearQueue byClass registerFault headWritten ackWritten written blockFault descFault judgeStep chainOf walkStep walkFrom walkAll firstStep firstsFrom sound takeOne dropOne takeStep takenFrom plan releaseStep releasedFrom releasedAll releasedFlags releasedHeads releasedBook fitParts unfit soundBook soundWorld release answerTo judgeHead judgeRegister lastOf isLast judgeAppend judgeLast judgeWord judgeClass judge admitted guestWrite inReception kindNumber judgeKind kindChange fetch readBurst close markEoq octetsOf clearOwn finish sendStep transmitStep receiveStep tearMark tearStep resetStep stepOf frameOf registerWrite unguardedWrite freshController applyWrite applyKind applyFrame applyStep freshMachine rxFetch rxStore rxClose rxMarkLast rxMarkFirst rxFinish rxStep ready numberFor shrunk
+unfolding setBit clearBit run sideOf goodPtr wordOf inDescriptors ruleOf classOf classAt wordAt putWord word put emptySet has freeAt addFour dropFour freeCount inUse view fitKinds roomFor roomOf touches sop eop owner eoq td packetLength lengthOf offsetOf firstByte flagsFault lengthFault endFault sumFault behind nextFault ownFault fetchFault putLength marked lastMarked awaiting anyTearing resetOf bitOf flagsFit loaded headFault ackFault teardownFault resetFault zeroFault tearQueue byClass registerFault headWritten ackWritten written blockFault descFault judgeStep chainOf walkStep walkFrom walkAll firstStep firstsFrom sound takeOne dropOne handOverStep takenFrom plan releaseStep releasedFrom releasedAll releasedFlags releasedHeads releasedBook fitParts unfit soundBook soundWorld release answerTo judgeHead judgeRegister lastOf isLast judgeAppend judgeLast judgeWord judgeClass judge admitted guestWrite inReception kindNumber judgeKind kindChange fetch readBurst close markEoq octetsOf clearOwn finish sendStep transmitStep receiveStep tearMark tearStep resetStep stepOf frameOf registerWrite unguardedWrite freshController applyWrite applyKind applyFrame applyStep freshMachine rxFetch rxStore rxClose rxMarkLast rxMarkFirst rxFinish rxStep ready numberFor shrunk
 no-length-now = record { now = refl; recorded = refl; missed = refl; met = refl; refused = refl; accepted = refl }
 
 pub no-append-always-sent : LateAppend
-unfolding setBit clearBit run sideOf goodPtr wordOf inDescriptors ruleOf classOf classAt wordAt putWord word put emptySet has freeAt addFour dropFour freeCount inUse view fitKinds roomFor roomOf touches sop eop owner eoq td packetLength lengthOf offsetOf firstByte flagsFault lengthFault endFault sumFault behind nextFault ownFault fetchFault putLength marked lastMarked awaiting anyTearing resetOf bitOf flagsFit loaded headFault ackFault teardownFault resetFault zeroFault tearQueue byClass registerFault headWritten ackWritten written blockFault descFault judgeStep chainOf walkStep walkFrom walkAll firstStep firstsFrom sound takeOne dropOne takeStep takenFrom plan releaseStep releasedFrom releasedAll releasedFlags releasedHeads releasedBook fitParts unfit soundBook soundWorld release answerTo judgeHead judgeRegister lastOf isLast judgeAppend judgeLast judgeWord judgeClass judge admitted guestWrite inReception kindNumber judgeKind kindChange fetch readBurst close markEoq octetsOf clearOwn finish sendStep transmitStep receiveStep tearMark tearStep resetStep stepOf frameOf registerWrite unguardedWrite freshController applyWrite applyKind applyFrame applyStep freshMachine rxFetch rxStore rxClose rxMarkLast rxMarkFirst rxFinish rxStep ready numberFor latchedZero leftBehind
+unfolding setBit clearBit run sideOf goodPtr wordOf inDescriptors ruleOf classOf classAt wordAt putWord word put emptySet has freeAt addFour dropFour freeCount inUse view fitKinds roomFor roomOf touches sop eop owner eoq td packetLength lengthOf offsetOf firstByte flagsFault lengthFault endFault sumFault behind nextFault ownFault fetchFault putLength marked lastMarked awaiting anyTearing resetOf bitOf flagsFit loaded headFault ackFault teardownFault resetFault zeroFault tearQueue byClass registerFault headWritten ackWritten written blockFault descFault judgeStep chainOf walkStep walkFrom walkAll firstStep firstsFrom sound takeOne dropOne handOverStep takenFrom plan releaseStep releasedFrom releasedAll releasedFlags releasedHeads releasedBook fitParts unfit soundBook soundWorld release answerTo judgeHead judgeRegister lastOf isLast judgeAppend judgeLast judgeWord judgeClass judge admitted guestWrite inReception kindNumber judgeKind kindChange fetch readBurst close markEoq octetsOf clearOwn finish sendStep transmitStep receiveStep tearMark tearStep resetStep stepOf frameOf registerWrite unguardedWrite freshController applyWrite applyKind applyFrame applyStep freshMachine rxFetch rxStore rxClose rxMarkLast rxMarkFirst rxFinish rxStep ready numberFor latchedZero leftBehind
 no-append-always-sent = record { appended = refl; idle = refl; hdp = refl; sent = refl; unsent = refl; held = refl; freed = refl }
 
 pub no-old-teardown-code : OldCode
-unfolding setBit clearBit run sideOf goodPtr wordOf inDescriptors ruleOf classOf classAt wordAt putWord word put emptySet has freeAt addFour dropFour freeCount inUse view fitKinds roomFor roomOf touches sop eop owner eoq td packetLength lengthOf offsetOf firstByte flagsFault lengthFault endFault sumFault behind nextFault ownFault fetchFault putLength marked lastMarked awaiting anyTearing resetOf bitOf flagsFit loaded headFault ackFault teardownFault resetFault zeroFault tearQueue byClass registerFault headWritten ackWritten written blockFault descFault judgeStep chainOf walkStep walkFrom walkAll firstStep firstsFrom sound takeOne dropOne takeStep takenFrom plan releaseStep releasedFrom releasedAll releasedFlags releasedHeads releasedBook fitParts unfit soundBook soundWorld release answerTo judgeHead judgeRegister lastOf isLast judgeAppend judgeLast judgeWord judgeClass judge admitted guestWrite inReception kindNumber judgeKind kindChange fetch readBurst close markEoq octetsOf clearOwn finish sendStep transmitStep receiveStep tearMark tearStep resetStep stepOf frameOf registerWrite unguardedWrite freshController applyWrite applyKind applyFrame applyStep freshMachine rxFetch rxStore rxClose rxMarkLast rxMarkFirst rxFinish rxStep ready numberFor codeLeft tearing
+unfolding setBit clearBit run sideOf goodPtr wordOf inDescriptors ruleOf classOf classAt wordAt putWord word put emptySet has freeAt addFour dropFour freeCount inUse view fitKinds roomFor roomOf touches sop eop owner eoq td packetLength lengthOf offsetOf firstByte flagsFault lengthFault endFault sumFault behind nextFault ownFault fetchFault putLength marked lastMarked awaiting anyTearing resetOf bitOf flagsFit loaded headFault ackFault teardownFault resetFault zeroFault tearQueue byClass registerFault headWritten ackWritten written blockFault descFault judgeStep chainOf walkStep walkFrom walkAll firstStep firstsFrom sound takeOne dropOne handOverStep takenFrom plan releaseStep releasedFrom releasedAll releasedFlags releasedHeads releasedBook fitParts unfit soundBook soundWorld release answerTo judgeHead judgeRegister lastOf isLast judgeAppend judgeLast judgeWord judgeClass judge admitted guestWrite inReception kindNumber judgeKind kindChange fetch readBurst close markEoq octetsOf clearOwn finish sendStep transmitStep receiveStep tearMark tearStep resetStep stepOf frameOf registerWrite unguardedWrite freshController applyWrite applyKind applyFrame applyStep freshMachine rxFetch rxStore rxClose rxMarkLast rxMarkFirst rxFinish rxStep ready numberFor codeLeft tearing
 no-old-teardown-code = record { code = refl; busy = refl; standing = refl; believed = refl; refused = refl; acknowledged = refl; pendingBook = refl; pendingModel = refl; done = refl }

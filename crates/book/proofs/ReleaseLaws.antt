@@ -24,8 +24,8 @@ use Rattle.registers.specs.Table.{tearingsOf, cpsOf, setTearings, unmarked}
 use Rattle.book.specs.declared.Mode.{Mode}
 use Rattle.book.specs.declared.Plan.{Plan}
 use Rattle.book.specs.declared.Plan.the-variants.{Keep, Drop}
-use Rattle.book.specs.declared.Turn.{Turn}
-use Rattle.book.specs.declared.Turn.the-variants.{Go}
+use Rattle.book.specs.declared.ReleaseHop.{ReleaseHop}
+use Rattle.book.specs.declared.ReleaseHop.the-variants.{Go}
 use Rattle.book.specs.HandOver.{Uses, dropOne}
 use Rattle.book.specs.Release.{RSt, ROut, plan, planned, releaseStep, releasedFrom, resetOver, settled, releasedFlags, releaseMode, releasedHeads, releasedBook}
 use Rattle.book.specs.World.{World, release}
@@ -115,16 +115,16 @@ module _ (w : ℕ → ℕ) (u : Uses) (p : ℕ) (mode : Mode) where
     unfolding releaseStep
     released-drop rest e = released-eq ∙ simp (g, h, e)
 
-  module _ {r : Turn} (v : Uses) (told : turned r p v ≡ releaseStep w (u, p, mode)) where
-    pub released-turn : (t : Turn) → r ≡ t → {o : ROut} → o ≡ after (turned t p v) (λ s. releasedFrom w (s .0) (s .1) (s .2)) → o ≡ releasedFrom w u p mode
+  module _ {r : ReleaseHop} (v : Uses) (told : turned r p v ≡ releaseStep w (u, p, mode)) where
+    pub released-turn : (t : ReleaseHop) → r ≡ t → {o : ROut} → o ≡ after (turned t p v) (λ s. releasedFrom w (s .0) (s .1) (s .2)) → o ≡ releasedFrom w u p mode
     released-turn t e h =
         h
-        ∙ ap (λ (n : Next RSt ROut). after n (λ s. releasedFrom w (s .0) (s .1) (s .2))) (ap (λ (x : Turn). turned x p v) (sym e) ∙ told)
+        ∙ ap (λ (n : Next RSt ROut). after n (λ s. releasedFrom w (s .0) (s .1) (s .2))) (ap (λ (x : ReleaseHop). turned x p v) (sym e) ∙ told)
         ∙ sym released-eq
 
     pub turn-falls : (next : ℕ) (rest : Mode) (n : ℕ) → r ≡ Go next rest → inUse (u .0) ≡ n → inUse (v .0) < n
     turn-falls next rest n e q =
-        rw (← q) (releaseStep-falls w (u, p, mode) (v, next, rest) (sym told ∙ ap (λ (x : Turn). turned x p v) e))
+        rw (← q) (releaseStep-falls w (u, p, mode) (v, next, rest) (sym told ∙ ap (λ (x : ReleaseHop). turned x p v) e))
 
 -- ---- the flags
 

@@ -9,17 +9,17 @@ use Prim.Native.Nat.{ℕ}
 use mathlib.Core.List.{List}
 use lib.Dec.{eqb}
 use Rattle.layout.specs.Run.{Next, go, stop}
-use Rattle.book.specs.declared.Turn.{Turn}
-use Rattle.book.specs.declared.Turn.the-variants as Turns
+use Rattle.book.specs.declared.ReleaseHop.{ReleaseHop}
+use Rattle.book.specs.declared.ReleaseHop.the-variants as ReleaseHops
 use Rattle.book.specs.declared.Hop.{Hop}
 use Rattle.book.specs.declared.Hop.the-variants as Hops
 use Rattle.book.specs.HandOver.{Uses}
 use Rattle.book.specs.Release.{RSt, ROut}
 use Rattle.book.specs.Sound.{WSt, WOut}
 
-abbrev pub turned : Turn → ℕ → Uses → Next RSt ROut
-turned Turns.Stop p u = stop (p, u)
-turned (Turns.Go next mode) p u = go (u, next, mode)
+abbrev pub turned : ReleaseHop → ℕ → Uses → Next RSt ROut
+turned ReleaseHops.Stop p u = stop (p, u)
+turned (ReleaseHops.Go next mode) p u = go (u, next, mode)
 
 abbrev pub taken : Hop → Uses → Next (Uses × ℕ) Uses
 taken Hops.Stop u = stop u

@@ -32,7 +32,7 @@ ghost use Rattle.layout.specs.Layout.{descBytes, queues};
 ghost use Rattle.words.specs.Word.{word};
 ghost use Rattle.registers.specs.Table.{headsOf, cpsOf, tearingsOf};
 ghost use Rattle.registers.specs.Rules.{teardownDone};
-ghost use Rattle.book.specs.HandOver.{recordOf, takeOne, dropOne, takeStep, takenFrom};
+ghost use Rattle.book.specs.HandOver.{recordedLength, takeOne, dropOne, handOverStep, takenFrom};
 ghost use Rattle.book.specs.Release.{through, plan, releaseStep, releasedFrom};
 ghost use Rattle.book.specs.Release.{resetOver, settled, releasedFlags, releaseMode, releasedHeads, releasedBook};
 ghost use Rattle.book.specs.Sound.{walkStep, walkFrom, walkAll, firstStep, firstsFrom, firstsAll};
@@ -55,7 +55,7 @@ pub enum Plan {
 }
 
 // How the release goes on after one descriptor: it stops there, or goes to the next in a mode.
-enum Turn {
+enum ReleaseHop {
     Stop,
     Go(u32, Mode),
 }
@@ -273,24 +273,24 @@ fn drop_one(used: &mut Words, lens: &mut Lengths, d: usize)
 }
 
 // The release at p: its descriptor is kept or dropped. A pointer that names no descriptor in use ends the queue.
-fn release_at(m: &[u8], used: &mut Words, lens: &mut Lengths, p: u32, mode: Mode) -> Turn
+fn release_at(m: &[u8], used: &mut Words, lens: &mut Lengths, p: u32, mode: Mode) -> ReleaseHop
     requires { ⌜ length (now m) ≡ descBytes ⌝ }
     ensures { λ r. ⌜ turned r p (now (used .exit), now (lens .exit))
         ≡ releaseStep (word (now (m .entry))) ((now (used .entry), now (lens .entry)), p, mode) ⌝ }
 {
     if !layout::is_good(p) {
-        return Turn::Stop;
+        return ReleaseHop::Stop;
     }
     let d = word_number(p);
     if !words::is_used(used, d) {
-        return Turn::Stop;
+        return ReleaseHop::Stop;
     }
     let fate = plan_of(mode, words::word_of(m, d + 3));
     match fate {
-        Plan::Keep => Turn::Stop,
+        Plan::Keep => ReleaseHop::Stop,
         Plan::Drop(rest) => {
             drop_one(used, lens, d);
-            Turn::Go(words::word_of(m, d), rest)
+            ReleaseHop::Go(words::word_of(m, d), rest)
         }
     }
 }
@@ -303,8 +303,8 @@ fn release_from(m: &&[u8], used: &mut Words, lens: &mut Lengths, p: u32, mode: M
 {
     let turn = release_at(*m, used, lens, p, mode);
     match turn {
-        Turn::Stop => p,
-        Turn::Go(next, rest) => release_from(m, used, lens, next, rest),
+        ReleaseHop::Stop => p,
+        ReleaseHop::Go(next, rest) => release_from(m, used, lens, next, rest),
     }
 }
 
@@ -439,7 +439,7 @@ pub fn is_quiet(m: &[u8], t: &State) -> bool
 
 // What is recorded for a descriptor: a receive length as handed over, else 0.
 fn record_of(side: Side, x2: u32) -> u16
-    ensures { λ r. ⌜ r ≡ recordOf side x2 ⌝ }
+    ensures { λ r. ⌜ r ≡ recordedLength side x2 ⌝ }
 {
     match side {
         Side::Transmit => 0,
@@ -460,7 +460,7 @@ fn take_one(side: Side, x2: u32, used: &mut Words, lens: &mut Lengths, d: usize)
 fn take_at(m: &[u8], side: Side, used: &mut Words, lens: &mut Lengths, p: u32) -> Hop
     requires { ⌜ length (now m) ≡ descBytes ⌝ }
     ensures { λ r. ⌜ taken r (now (used .exit), now (lens .exit))
-        ≡ takeStep (word (now (m .entry))) side ((now (used .entry), now (lens .entry)), p) ⌝ }
+        ≡ handOverStep (word (now (m .entry))) side ((now (used .entry), now (lens .entry)), p) ⌝ }
 {
     if !layout::is_good(p) {
         return Hop::Stop;

@@ -16,7 +16,7 @@ use Rattle.registers.specs.Table.{awaiting, anyTearing, resetOf, bitOf, flagsFi
 use Rattle.registers.specs.Rules.{headFault, ackFault, teardownFault, resetFault, zeroFault, tearQueue, byClass, registerFault, headWritten, ackWritten, written}
 use Rattle.chain.specs.Chain.{blockFault, descFault, judgeStep, chainOf}
 use Rattle.book.specs.Sound.{walkStep, walkFrom, walkAll, firstStep, firstsFrom, sound}
-use Rattle.book.specs.HandOver.{takeOne, dropOne, takeStep, takenFrom}
+use Rattle.book.specs.HandOver.{takeOne, dropOne, handOverStep, takenFrom}
 use Rattle.book.specs.Release.{plan, releaseStep, releasedFrom, releasedAll, releasedFlags, releasedHeads, releasedBook}
 use Rattle.book.specs.World.{fitParts, unfit, soundBook, soundWorld, release}
 use Rattle.guard.specs.Answers.{answerTo}
@@ -30,7 +30,7 @@ use Rattle.cases.specs.Scene.{ready, answered}
 use Rattle.cases.specs.Starred.{rxOne, txOne, txTwo, rxChain, sending, hdpAfter, Starred}
 
 pub starred : Starred
-unfolding setBit clearBit run sideOf goodPtr wordOf inDescriptors ruleOf classOf classAt wordAt putWord word put emptySet has freeAt addFour dropFour freeCount inUse view fitKinds roomFor roomOf touches sop eop owner eoq td packetLength lengthOf offsetOf firstByte flagsFault lengthFault endFault sumFault behind nextFault ownFault fetchFault putLength marked lastMarked awaiting anyTearing resetOf bitOf flagsFit loaded headFault ackFault teardownFault resetFault zeroFault tearQueue byClass registerFault headWritten ackWritten written blockFault descFault judgeStep chainOf walkStep walkFrom walkAll firstStep firstsFrom sound takeOne dropOne takeStep takenFrom plan releaseStep releasedFrom releasedAll releasedFlags releasedHeads releasedBook fitParts unfit soundBook soundWorld release answerTo judgeHead judgeRegister lastOf isLast judgeAppend judgeLast judgeWord judgeClass judge admitted guestWrite inReception kindNumber judgeKind kindChange fetch readBurst close markEoq octetsOf clearOwn finish sendStep transmitStep receiveStep tearMark tearStep resetStep stepOf frameOf registerWrite unguardedWrite freshController applyWrite applyKind applyFrame applyStep freshMachine ready answered rxOne txOne txTwo rxChain sending hdpAfter
+unfolding setBit clearBit run sideOf goodPtr wordOf inDescriptors ruleOf classOf classAt wordAt putWord word put emptySet has freeAt addFour dropFour freeCount inUse view fitKinds roomFor roomOf touches sop eop owner eoq td packetLength lengthOf offsetOf firstByte flagsFault lengthFault endFault sumFault behind nextFault ownFault fetchFault putLength marked lastMarked awaiting anyTearing resetOf bitOf flagsFit loaded headFault ackFault teardownFault resetFault zeroFault tearQueue byClass registerFault headWritten ackWritten written blockFault descFault judgeStep chainOf walkStep walkFrom walkAll firstStep firstsFrom sound takeOne dropOne handOverStep takenFrom plan releaseStep releasedFrom releasedAll releasedFlags releasedHeads releasedBook fitParts unfit soundBook soundWorld release answerTo judgeHead judgeRegister lastOf isLast judgeAppend judgeLast judgeWord judgeClass judge admitted guestWrite inReception kindNumber judgeKind kindChange fetch readBurst close markEoq octetsOf clearOwn finish sendStep transmitStep receiveStep tearMark tearStep resetStep stepOf frameOf registerWrite unguardedWrite freshController applyWrite applyKind applyFrame applyStep freshMachine ready answered rxOne txOne txTwo rxChain sending hdpAfter
 starred = record {
   hdp-4A103FF0-0 = refl;
   hdp-4A103FF4-12 = refl;

@@ -21,9 +21,9 @@ use Rattle.registers.specs.Table.{hdpOf}
 use Rattle.phases.specs.declared.Receiving.the-variants.{Fetch}
 use Rattle.phases.specs.Quiet.{waits}
 use Rattle.controller.specs.declared.Controller.{Controller}
-use Rattle.controller.specs.Controller.{Moved, Framed, answer, unlessUndefined, rxOf, held, framed, setRx, frameOf, registerWrite, unguardedWrite}
+use Rattle.controller.specs.Controller.{StepDone, Framed, answer, unlessUndefined, rxOf, heldBack, framed, setRx, frameOf, registerWrite, unguardedWrite}
 
-module _ (c : Controller) (m : List ℕ) (x : Moved) where
+module _ (c : Controller) (m : List ℕ) (x : StepDone) where
   pub entry-unfit : length m ≢ descBytes → unlessUndefined c m x ≡ answer 1 c m
   entry-unfit h = rw (ne-eqb _ _ h) refl
 
@@ -73,7 +73,7 @@ module _ (n : ℕ) (c : Controller) where
   taken = framed 0 (setRx 0 (Fetch (record { first = hdpOf (c .state) (queueOf Receive 0); stored = 0; left = n })) c)
 
   abbrev unless-taken : Framed
-  unless-taken = pick (both (not (eqb (hdpOf (c .state) (queueOf Receive 0)) 0)) (both (waits (rxOf c 0)) (not (held c (queueOf Receive 0))))) taken (framed 24 c)
+  unless-taken = pick (both (not (eqb (hdpOf (c .state) (queueOf Receive 0)) 0)) (both (waits (rxOf c 0)) (not (heldBack c (queueOf Receive 0))))) taken (framed 24 c)
 
   pub frame-undefined : c .undefined ≡ true → frameOf n c ≡ framed 22 c
   unfolding frameOf
@@ -92,21 +92,21 @@ module _ (n : ℕ) (c : Controller) where
     unfolding frameOf
     frame-headless h =
         at-last (framed 22 c) taken (framed 24 c) (framed 23 c) u (le-leb _ _ low) (le-leb _ _ high)
-        (no-first (both (waits (rxOf c 0)) (not (held c (queueOf Receive 0)))) (not-yes (eq-eqb _ _ h)))
+        (no-first (both (waits (rxOf c 0)) (not (heldBack c (queueOf Receive 0)))) (not-yes (eq-eqb _ _ h)))
 
     pub frame-busy : hdpOf (c .state) (queueOf Receive 0) ≢ 0 → waits (rxOf c 0) ≡ false → frameOf n c ≡ framed 24 c
     unfolding frameOf
     frame-busy h w =
         at-last (framed 22 c) taken (framed 24 c) (framed 23 c) u (le-leb _ _ low) (le-leb _ _ high)
-        (no-second (not (held c (queueOf Receive 0))) (not-no (ne-eqb _ _ h)) w)
+        (no-second (not (heldBack c (queueOf Receive 0))) (not-no (ne-eqb _ _ h)) w)
 
-    pub frame-held : hdpOf (c .state) (queueOf Receive 0) ≢ 0 → waits (rxOf c 0) ≡ true → held c (queueOf Receive 0) ≡ true → frameOf n c ≡ framed 24 c
+    pub frame-held : hdpOf (c .state) (queueOf Receive 0) ≢ 0 → waits (rxOf c 0) ≡ true → heldBack c (queueOf Receive 0) ≡ true → frameOf n c ≡ framed 24 c
     unfolding frameOf
     frame-held h w e =
         at-last (framed 22 c) taken (framed 24 c) (framed 23 c) u (le-leb _ _ low) (le-leb _ _ high)
         (no-third (not-no (ne-eqb _ _ h)) w (not-yes e))
 
-pub frame-taken : (n : ℕ) (c : Controller) → c .undefined ≡ false → 1 ≤ n → n ≤ lengthMax → hdpOf (c .state) (queueOf Receive 0) ≢ 0 → waits (rxOf c 0) ≡ true → held c (queueOf Receive 0) ≡ false
+pub frame-taken : (n : ℕ) (c : Controller) → c .undefined ≡ false → 1 ≤ n → n ≤ lengthMax → hdpOf (c .state) (queueOf Receive 0) ≢ 0 → waits (rxOf c 0) ≡ true → heldBack c (queueOf Receive 0) ≡ false
     → frameOf n c ≡ framed 0 (setRx 0 (Fetch (record { first = hdpOf (c .state) (queueOf Receive 0); stored = 0; left = n })) c)
 unfolding frameOf
 frame-taken n c u low high h w e =
@@ -114,20 +114,20 @@ frame-taken n c u low high h w e =
 
 -- ---- unguarded writes
 
-odd : {n : ℕ} (b : Bool) (x y z : Moved) → n ≢ 0 → pick (eqb n 0) (pick b x y) z ≡ z
+odd : {n : ℕ} (b : Bool) (x y z : StepDone) → n ≢ 0 → pick (eqb n 0) (pick b x y) z ≡ z
 odd b x y z h = rw (ne-eqb _ _ h) refl
 
-even : {n : ℕ} {b : Bool} (x y z : Moved) → n ≡ 0 → b ≡ true → pick (eqb n 0) (pick b x y) z ≡ x
+even : {n : ℕ} {b : Bool} (x y z : StepDone) → n ≡ 0 → b ≡ true → pick (eqb n 0) (pick b x y) z ≡ x
 even x y z h e = rw (eq-eqb _ _ h, e) refl
 
-other : {n : ℕ} {b : Bool} (x y z : Moved) → n ≡ 0 → b ≡ false → pick (eqb n 0) (pick b x y) z ≡ y
+other : {n : ℕ} {b : Bool} (x y z : StepDone) → n ≡ 0 → b ≡ false → pick (eqb n 0) (pick b x y) z ≡ y
 other x y z h e = rw (eq-eqb _ _ h, e) refl
 
 module _ (a v : ℕ) (c : Controller) (m : List ℕ) (size : length m ≡ descBytes) (live : c .undefined ≡ false) where
-  abbrev stored : Moved
+  abbrev stored : StepDone
   stored = answer 0 c (put m ((a - descFirst) / 4) v)
 
-  abbrev judged : Moved
+  abbrev judged : StepDone
   judged = registerWrite (classAt a) v c m
 
   pub write-odd : a % 4 ≢ 0 → unguardedWrite a v c m ≡ answer 3 c m

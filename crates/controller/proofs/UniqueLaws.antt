@@ -8,12 +8,12 @@ use Rattle.controller.specs.declared.Controller.{Controller}
 use Rattle.phases.specs.declared.Engine.{Engine}
 use Rattle.controller.specs.declared.Stepped.{Stepped}
 use Rattle.controller.specs.declared.Arrived.{Arrived}
-use Rattle.controller.specs.Controller.{Moved, outcome, stepOf, Framed, arrival, frameOf, unguardedWrite, freshController}
+use Rattle.controller.specs.Controller.{StepDone, outcome, stepOf, Framed, arrival, frameOf, unguardedWrite, freshController}
 
-pub outcome-unique : (o : Moved) (r s : Stepped) (x y : List ℕ) → outcome r x ≡ o → outcome s y ≡ o → (r ≡ s) × (x ≡ y)
+pub outcome-unique : (o : StepDone) (r s : Stepped) (x y : List ℕ) → outcome r x ≡ o → outcome s y ≡ o → (r ≡ s) × (x ≡ y)
 outcome-unique o r s x y p q =
     let e = p ∙ sym q in
-    (ap {B = Stepped} (λ (z : Moved). record { ctl = z .ctl; burst = z .burst; number = z .number }) e, ap (λ (z : Moved). z .mem) e)
+    (ap {B = Stepped} (λ (z : StepDone). record { ctl = z .ctl; burst = z .burst; number = z .number }) e, ap (λ (z : StepDone). z .mem) e)
 
 pub arrival-unique : (o : Framed) (r s : Arrived) → arrival r ≡ o → arrival s ≡ o → r ≡ s
 arrival-unique o r s p q = ap {B = Arrived} (λ (z : Framed). record { ctl = z .ctl; number = z .number }) (p ∙ sym q)

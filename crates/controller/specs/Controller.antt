@@ -1,11 +1,11 @@
 -- The controller record and every way it changes. Document 01, "The controller's steps".
 --     txOf, rxOf c ch              the phases of a channel
 --     stageOf c q                  which teardown step of a queue comes next
---     Moved                        the record and descriptor memory afterwards, the burst made, the answer
+--     StepDone                        the record and descriptor memory afterwards, the burst made, the answer
 --     outcome r m                  the same, of what a step handed back and the memory that it left
 --     answer, undefine             nothing but an answer; undefined now and later (22)
 --     transmitStep, receiveStep ch one step of an engine
---     quiet c q                    engine q is "idle, waiting or, transmit only, at 1 of a new packet"
+--     quietEngine c q                    engine q is "idle, waiting or, transmit only, at 1 of a new packet"
 --     tearStep q                   teardown steps 1 to 3 of a queue
 --     resetStep                    the reset
 --     moveOf e, stepOf e           the step of any engine; the same, where memory and record allow one
@@ -104,22 +104,22 @@ setUndefined c = record {
   received = c .received;
 }
 
-pub record Moved : Type 0 where
+pub record StepDone : Type 0 where
   pub ctl : Controller
   pub mem : List ℕ
   pub burst : Burst
   pub number : ℕ
 
 -- what a step handed back, with the memory that it left
-abbrev pub outcome : Stepped → List ℕ → Moved
+abbrev pub outcome : Stepped → List ℕ → StepDone
 outcome r m = record { ctl = r .ctl; mem = m; burst = r .burst; number = r .number }
 
 -- an answer, and nothing else. "A step that cannot move changes nothing": it answers 0
-abbrev pub answer : ℕ → Controller → List ℕ → Moved
+abbrev pub answer : ℕ → Controller → List ℕ → StepDone
 answer n c m = record { ctl = c; mem = m; burst = Quiet; number = n }
 
 -- "after 22 the controller is marked undefined and nothing else changes, now or later"
-abbrev pub undefine : Controller → List ℕ → Moved
+abbrev pub undefine : Controller → List ℕ → StepDone
 undefine c m = record { ctl = setUndefined c; mem = m; burst = Quiet; number = 22 }
 
 -- totals stop at 2^64 − 1
@@ -132,7 +132,7 @@ added t n = min (t + n) 0xFFFF_FFFF_FFFF_FFFF
 abbrev pub setRegs : ℕ → ℕ → ℕ → Controller → Controller
 setRegs q hdp cp c = setState (setHdp q hdp (setCp q cp (c .state))) c
 
-abbrev pub sendMoved : ℕ → Sends × List ℕ → Controller → List ℕ → Moved
+abbrev pub sendMoved : ℕ → Sends × List ℕ → Controller → List ℕ → StepDone
 sendMoved ch (Sends.Unfit, x) c m = undefine c m
 sendMoved ch (Sends.Went s, x) c m = record {
   ctl = setRegs (queueOf Sides.Transmit ch) (s .hdp) (s .cp) (setTotals (added (c .sent) (s .octets)) (c .received) (setTx ch (s .state) c));
@@ -141,7 +141,7 @@ sendMoved ch (Sends.Went s, x) c m = record {
   number = 0;
 }
 
-abbrev pub takeMoved : ℕ → Takes × List ℕ → Controller → List ℕ → Moved
+abbrev pub takeMoved : ℕ → Takes × List ℕ → Controller → List ℕ → StepDone
 takeMoved ch (Takes.Unfit, x) c m = undefine c m
 takeMoved ch (Takes.Went s, x) c m = record {
   ctl = setRegs (queueOf Sides.Receive ch) (s .hdp) (s .cp) (setTotals (c .sent) (added (c .received) (s .octets)) (setRx ch (s .state) c));
@@ -151,15 +151,15 @@ takeMoved ch (Takes.Went s, x) c m = record {
 }
 
 -- reset or that queue's teardown is pending
-abbrev pub held : Controller → ℕ → Bool
-held c q = pick (resetOf (c .state)) true (tearingOf (c .state) q)
+abbrev pub heldBack : Controller → ℕ → Bool
+heldBack c q = pick (resetOf (c .state)) true (tearingOf (c .state) q)
 
-unfoldable pub transmitStep : ℕ → Controller → List ℕ → Moved
+unfoldable pub transmitStep : ℕ → Controller → List ℕ → StepDone
 transmitStep ch c m =
     let q = queueOf Sides.Transmit ch in
-    sendMoved ch (sendStep (held c q) m (txOf c ch) (hdpOf (c .state) q) (cpOf (c .state) q)) c m
+    sendMoved ch (sendStep (heldBack c q) m (txOf c ch) (hdpOf (c .state) q) (cpOf (c .state) q)) c m
 
-unfoldable pub receiveStep : ℕ → Controller → List ℕ → Moved
+unfoldable pub receiveStep : ℕ → Controller → List ℕ → StepDone
 receiveStep ch c m =
     let q = queueOf Sides.Receive ch in
     takeMoved ch (takeStep m (rxOf c ch) (hdpOf (c .state) q) (cpOf (c .state) q)) c m
@@ -169,8 +169,8 @@ abbrev pub quietBy : Side → Controller → ℕ → Bool
 quietBy Sides.Transmit c ch = quietTx (txOf c ch)
 quietBy Sides.Receive c ch = quietRx (rxOf c ch)
 
-abbrev pub quiet : Controller → ℕ → Bool
-quiet c q = quietBy (sideOf q) c (channelOf q)
+abbrev pub quietEngine : Controller → ℕ → Bool
+quietEngine c q = quietBy (sideOf q) c (channelOf q)
 
 abbrev pub idleBy : Side → ℕ → Controller → Controller
 idleBy Sides.Transmit ch c = setTx ch S.Idle c
@@ -180,7 +180,7 @@ abbrev pub setIdle : ℕ → Controller → Controller
 setIdle q c = idleBy (sideOf q) (channelOf q) c
 
 -- "(1) set TD at HDP if nonzero"
-unfoldable pub tearMark : ℕ → Controller → List ℕ → Moved
+unfoldable pub tearMark : ℕ → Controller → List ℕ → StepDone
 tearMark q c m =
     let p = hdpOf (c .state) q in
     pick (eqb p 0) (answer 0 (setStage q 2 c) m)
@@ -195,10 +195,10 @@ abbrev pub tearReport : ℕ → Controller → Controller
 tearReport q c = setStage q 1 (setState (clearTearing q (setCp q teardownDone (c .state))) c)
 
 -- "Teardown, when pending and that engine is idle, waiting or, transmit only, at 1 of a new packet"
-unfoldable pub tearStep : ℕ → Controller → List ℕ → Moved
+unfoldable pub tearStep : ℕ → Controller → List ℕ → StepDone
 tearStep q c m =
     let n = stageOf c q in
-    pick (both (tearingOf (c .state) q) (quiet c q))
+    pick (both (tearingOf (c .state) q) (quietEngine c q))
     (pick (eqb n 1) (tearMark q c m)
     (pick (eqb n 2) (answer 0 (tearClear q c) m) (answer 0 (tearReport q c) m)))
     (answer 0 c m)
@@ -212,28 +212,28 @@ allQuiet [] = true
 allQuiet (x ∷ xs) = both (quietChannel x) (allQuiet xs)
 
 -- "Reset, when pending and both engines are so: bit cleared, engines idle, four registers await zero with their old values"
-unfoldable pub resetStep : Controller → List ℕ → Moved
+unfoldable pub resetStep : Controller → List ℕ → StepDone
 resetStep c m =
     pick (both (resetOf (c .state)) (allQuiet (c .channels)))
     (answer 0 (setState (setResetBit 0 (unmarked (c .state))) (setChannels idleChannels c)) m)
     (answer 0 c m)
 
 -- a memory of another size is answered 1; then an undefined controller 22
-abbrev pub unlessUndefined : Controller → List ℕ → Moved → Moved
+abbrev pub unlessUndefined : Controller → List ℕ → StepDone → StepDone
 unlessUndefined c m x = pick (eqb (length m) descBytes) (pick (c .undefined) (answer 22 c m) x) (answer 1 c m)
 
 -- an engine of a channel that there is not cannot move
-abbrev pub onChannel : ℕ → Controller → List ℕ → Moved → Moved
+abbrev pub onChannel : ℕ → Controller → List ℕ → StepDone → StepDone
 onChannel ch c m x = pick (ltb ch channels) x (answer 0 c m)
 
-abbrev pub moveOf : Engine → Controller → List ℕ → Moved
+abbrev pub moveOf : Engine → Controller → List ℕ → StepDone
 moveOf Reset c m = resetStep c m
 moveOf (Transmit ch) c m = onChannel ch c m (transmitStep ch c m)
 moveOf (Receive ch) c m = onChannel ch c m (receiveStep ch c m)
 moveOf (TearTransmit ch) c m = onChannel ch c m (tearStep (queueOf Sides.Transmit ch) c m)
 moveOf (TearReceive ch) c m = onChannel ch c m (tearStep (queueOf Sides.Receive ch) c m)
 
-unfoldable pub stepOf : Engine → Controller → List ℕ → Moved
+unfoldable pub stepOf : Engine → Controller → List ℕ → StepDone
 stepOf e c m = unlessUndefined c m (moveOf e c m)
 
 -- ---- a frame: "taken (go to 1) when HDP is nonzero, the engine waits, and no reset or receive teardown is pending; else 24"
@@ -254,7 +254,7 @@ frameOf n c =
     let p = hdpOf (c .state) q in
     pick (c .undefined) (framed 22 c)
     (pick (both (leb 1 n) (leb n lengthMax))
-    (pick (both (not (eqb p 0)) (both (waits (rxOf c 0)) (not (held c q))))
+    (pick (both (not (eqb p 0)) (both (waits (rxOf c 0)) (not (heldBack c q))))
     (framed 0 (setRx 0 (R.Fetch (record { first = p; stored = 0; left = n })) c))
     (framed 24 c))
     (framed 23 c))
@@ -271,7 +271,7 @@ setBegun q c = begunBy (sideOf q) (channelOf q) c
 abbrev pub startsEngine : Controller → ℕ → Bool
 startsEngine c n = both (ltb n (hdpClass + queues)) (not (awaiting (c .state)))
 
-unfoldable pub registerWrite : ℕ → ℕ → Controller → List ℕ → Moved
+unfoldable pub registerWrite : ℕ → ℕ → Controller → List ℕ → StepDone
 registerWrite n v c m =
     let k = registerFault (c .state) n v in
     let begun = pick (startsEngine c n) (setBegun (n - hdpClass) c) c in
@@ -280,7 +280,7 @@ registerWrite n v c m =
 
 -- "Without the guard, a write to which the rules above give 5 to 10, read over the model's own marks and pending flags and no
 -- book, makes it undefined (22); 3 and 4 change nothing; all else takes effect."
-unfoldable pub unguardedWrite : ℕ → ℕ → Controller → List ℕ → Moved
+unfoldable pub unguardedWrite : ℕ → ℕ → Controller → List ℕ → StepDone
 unguardedWrite a v c m =
     unlessUndefined c m
     (pick (eqb (a % 4) 0)

@@ -24,7 +24,7 @@ ghost use lib.ListN.{getD};
 ghost use Rattle.layout.specs.Choice.{both};
 ghost use Rattle.layout.specs.Layout.{channels, queues, queueOf};
 ghost use Rattle.registers.specs.Table.{hdpOf, cpOf};
-ghost use Rattle.controller.specs.Controller.{idleChannel, idleChannels, txOf, rxOf, stageOf, setTx, setRx, setTotals, setRegs, setStage, added, held, quiet, quietChannel, allQuiet, setIdle, outcome, answer, undefine};
+ghost use Rattle.controller.specs.Controller.{idleChannel, idleChannels, txOf, rxOf, stageOf, setTx, setRx, setTotals, setRegs, setStage, added, heldBack, quietEngine, quietChannel, allQuiet, setIdle, outcome, answer, undefine};
 
 const TOTAL_MAX: u64 = 0xFFFF_FFFF_FFFF_FFFF;
 
@@ -58,7 +58,7 @@ pub fn cp_of(c: Controller, q: usize) -> u32
 // Whether reset or the teardown of queue q is pending.
 pub fn is_held(c: Controller, q: usize) -> bool
     requires { ⌜ q < queues ⌝ }
-    ensures { λ r. ⌜ r ≡ held c q ⌝ }
+    ensures { λ r. ⌜ r ≡ heldBack c q ⌝ }
 {
     let t = c.state;
     if is_resetting(&t) {
@@ -181,7 +181,7 @@ pub fn set_idle(c: Controller, q: usize) -> Controller
 // Whether the engine of queue q is idle, waiting or, transmit only, at 1 of a new packet.
 pub fn is_quiet(c: Controller, q: usize) -> bool
     requires { ⌜ q < queues ⌝ }
-    ensures { λ r. ⌜ r ≡ quiet c q ⌝ }
+    ensures { λ r. ⌜ r ≡ quietEngine c q ⌝ }
 {
     let side = side_of(q);
     match side {
@@ -212,13 +212,13 @@ fn is_quiet_channel(all: [Channel; CHANNELS], ch: usize) -> bool
 pub fn are_all_quiet(all: [Channel; CHANNELS]) -> bool
     ensures { λ r. ⌜ r ≡ allQuiet all ⌝ }
 {
-    let mut quiet = true;
+    let mut quietEngine = true;
     let mut ch: usize = 0;
     while ch < CHANNELS {
-        quiet = are_both(quiet, is_quiet_channel(all, ch));
+        quietEngine = are_both(quietEngine, is_quiet_channel(all, ch));
         ch += 1;
     }
-    quiet
+    quietEngine
 }
 
 // Every engine idle.

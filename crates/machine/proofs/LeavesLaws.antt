@@ -22,22 +22,22 @@ use Rattle.phases.specs.declared.Engine.{Engine}
 use Rattle.controller.specs.declared.Controller.{Controller}
 use Rattle.controller.specs.declared.Stepped.{Stepped}
 use Rattle.controller.specs.declared.Arrived.{Arrived}
-use Rattle.controller.specs.Controller.{Moved, outcome, stepOf, Framed, arrival, frameOf, unguardedWrite}
+use Rattle.controller.specs.Controller.{StepDone, outcome, stepOf, Framed, arrival, frameOf, unguardedWrite}
 use Rattle.machine.specs.declared.After.{After}
 use Rattle.machine.specs.Machine.{Machine, withWorld, withCtl, carriedOut, answerOf, applyWrite, applyKind, applyFrame, applyStep}
-use Rattle.machine.specs.After.{machineAt, kept, met, reachedBy, Leaves, Moves}
+use Rattle.machine.specs.After.{machineAt, leftAlone, met, reachedBy, Leaves, Moves}
 
 module _ (c : Controller) (n : ℕ) (a : Answer) (r : After) where
-  pub met-kept : n ≡ 0 → r ≡ kept c a → r ≡ met c n a
+  pub met-kept : n ≡ 0 → r ≡ leftAlone c a → r ≡ met c n a
   unfolding met
   met-kept h e = rw (eq-eqb n 0 h) e
 
-  pub met-refused : n ≢ 0 → r ≡ kept c (Refused n) → r ≡ met c n a
+  pub met-refused : n ≢ 0 → r ≡ leftAlone c (Refused n) → r ≡ met c n a
   unfolding met
   met-refused h e = rw (ne-eqb n 0 h) e
 
 module _ (a v : ℕ) (c : Controller) (x : Answer) (m : List ℕ) (n : ℕ) (i : n ≡ numberOf x) where
-  pub carry-kept : n ≢ 0 → (r : After) → r ≡ kept c x → (r, m) ≡ reachedBy a v c x m
+  pub carry-kept : n ≢ 0 → (r : After) → r ≡ leftAlone c x → (r, m) ≡ reachedBy a v c x m
   unfolding reachedBy
   carry-kept h r e = rw (← i, ne-eqb n 0 h) (ap (λ (y : After). (y, m)) e)
 
@@ -54,7 +54,7 @@ Reached = After × List ℕ
 module _ (s : Machine) (o : Outcome) (r : After) (m k t u l : List ℕ)
     (ek : k ≡ o .world .kinds) (et : t ≡ o .world .state) (eu : u ≡ o .world .used) (el : l ≡ o .world .lens) where
   -- whichever way it went, what was handed back has the parts that the machine has
-  all-parts : (c : Controller) (m′ : List ℕ) (a : Answer) → _≡_ {A = Reached} (r, m) (kept c a, m′)
+  all-parts : (c : Controller) (m′ : List ℕ) (a : Answer) → _≡_ {A = Reached} (r, m) (leftAlone c a, m′)
       → Leaves (record { machine = withCtl c m′ (withWorld (o .world) s); answer = a; burst = Quiet }) r m k t u l
   all-parts c m′ a e = record {
     answer = ap (λ (y : Reached). y .0 .answer) e;
@@ -67,9 +67,9 @@ module _ (s : Machine) (o : Outcome) (r : After) (m k t u l : List ℕ)
     lens = el;
   }
 
-  pick-leaves : (p q : Bool) (x : Moved)
-      → (r, m) ≡ pick {A = Reached} p (pick q (kept (x .ctl) (o .answer)) (kept (x .ctl) (Refused (x .number))), x .mem)
-      (kept (s .ctl) (o .answer), o .world .mem)
+  pick-leaves : (p q : Bool) (x : StepDone)
+      → (r, m) ≡ pick {A = Reached} p (pick q (leftAlone (x .ctl) (o .answer)) (leftAlone (x .ctl) (Refused (x .number))), x .mem)
+      (leftAlone (s .ctl) (o .answer), o .world .mem)
       → Leaves (pick p (pick q
       (record { machine = withCtl (x .ctl) (x .mem) (withWorld (o .world) s); answer = o .answer; burst = Quiet })
       (record { machine = withCtl (x .ctl) (x .mem) (withWorld (o .world) s); answer = Refused (x .number); burst = Quiet }))
@@ -95,7 +95,7 @@ module _ (c : Controller) (m k t u l t0 : List ℕ) (e0 : t0 ≡ loaded (c .stat
       reached-leaves (machineAt c m k t u l) o r m2 k1 t1 u1 l1 (h .kinds) (h .state) (h .used) (h .lens) a v
       (e ∙ ap (λ (y : Answer). reachedBy a v c y m1) (h .answer) ∙ ap (λ (y : List ℕ). reachedBy a v c (o .answer) y) (h .mem))
 
-  pub kind-leaves : (p q : ℕ) → Gives (kindChange p q (worldAt m k t0 u l)) x m1 k1 t1 u1 l1 → r ≡ kept c x
+  pub kind-leaves : (p q : ℕ) → Gives (kindChange p q (worldAt m k t0 u l)) x m1 k1 t1 u1 l1 → r ≡ leftAlone c x
       → Leaves (applyKind p q (machineAt c m k t u l)) r m1 k1 t1 u1 l1
   unfolding applyKind
   kind-leaves p q g e =
@@ -132,10 +132,10 @@ pub step-moves : (e : Engine) (c : Controller) (m : List ℕ) (r : Stepped) (a :
     → a ≡ answerOf (r .number) → Moves (applyStep e) c m (record { ctl = r .ctl; answer = a; burst = r .burst }) m1
 unfolding applyStep
 step-moves e c m r a m1 q i k t u l = record {
-  answer = i ∙ ap (λ (z : Moved). answerOf (z .number)) q;
-  burst = ap (λ (z : Moved). z .burst) q;
-  ctl = ap (λ (z : Moved). z .ctl) q;
-  mem = ap (λ (z : Moved). z .mem) q;
+  answer = i ∙ ap (λ (z : StepDone). answerOf (z .number)) q;
+  burst = ap (λ (z : StepDone). z .burst) q;
+  ctl = ap (λ (z : StepDone). z .ctl) q;
+  mem = ap (λ (z : StepDone). z .mem) q;
   kinds = refl;
   state = refl;
   used = refl;

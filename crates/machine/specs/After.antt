@@ -1,6 +1,6 @@
 -- What an operation hands back, held to what the machine does.
 --     machineAt              a machine from what an operation is handed
---     kept, met, reachedBy   what is handed back where the controller is left alone, has answered, and either of the two
+--     leftAlone, met, reachedBy   what is handed back where the controller is left alone, has answered, and either of the two
 --     Leaves h r m k t u l   an operation's result and the tables it leaves are those of h: the promise of every operation
 --     Moves f c m r m′       a result of the controller alone leaves what f says, whatever small state, kinds, words in use and
 --                            lengths there are
@@ -22,16 +22,16 @@ use Rattle.machine.specs.Machine.{Machine, Happened}
 abbrev pub machineAt : Controller → List ℕ → List ℕ → List ℕ → List ℕ → List ℕ → Machine
 machineAt c m k t u l = record { ctl = c; mem = m; kinds = k; state = t; used = u; lens = l }
 
-abbrev pub kept : Controller → Answer → After
-kept c a = record { ctl = c; answer = a; burst = Quiet }
+abbrev pub leftAlone : Controller → Answer → After
+leftAlone c a = record { ctl = c; answer = a; burst = Quiet }
 
 unfoldable pub met : Controller → ℕ → Answer → After
-met c n a = pick (eqb n 0) (kept c a) (kept c (Refused n))
+met c n a = pick (eqb n 0) (leftAlone c a) (leftAlone c (Refused n))
 
 unfoldable pub reachedBy : ℕ → ℕ → Controller → Answer → List ℕ → After × List ℕ
 reachedBy a v c answer m =
     let x = unguardedWrite a v c m in
-    pick (eqb (numberOf answer) 0) (met (x .ctl) (x .number) answer, x .mem) (kept c answer, m)
+    pick (eqb (numberOf answer) 0) (met (x .ctl) (x .number) answer, x .mem) (leftAlone c answer, m)
 
 pub record Leaves (h : Happened) (r : After) (m k t u l : List ℕ) : Type 0 where
   pub answer : r .answer ≡ h .answer

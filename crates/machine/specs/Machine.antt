@@ -23,7 +23,7 @@ use Rattle.phases.specs.declared.Burst.{Burst}
 use Rattle.phases.specs.declared.Burst.the-variants.{Quiet}
 use Rattle.phases.specs.declared.Engine.{Engine}
 use Rattle.controller.specs.declared.Controller.{Controller}
-use Rattle.controller.specs.Controller.{Moved, stepOf, frameOf, unguardedWrite, freshController}
+use Rattle.controller.specs.Controller.{StepDone, stepOf, frameOf, unguardedWrite, freshController}
 
 pub record Machine : Type 0 where
   pub ctl : Controller
@@ -50,7 +50,7 @@ pub record Happened : Type 0 where
   pub burst : Burst
 
 -- an accepted guest write reaches the controller as a write that no guard has judged; 22 there is the answer
-abbrev pub reached : Answer → Moved → Machine → Happened
+abbrev pub reached : Answer → StepDone → Machine → Happened
 reached a x s =
     pick (eqb (x .number) 0)
     (record { machine = withCtl (x .ctl) (x .mem) s; answer = a; burst = Quiet })

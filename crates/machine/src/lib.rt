@@ -26,7 +26,7 @@ ghost use mathlib.Core.Path.{_≡_};
 ghost use mathlib.Core.List.{List};
 ghost use Prim.Native.Nat.{ℕ};
 ghost use Rattle.machine.specs.Machine.{applyWrite, applyKind, applyFrame, applyStep};
-ghost use Rattle.machine.specs.After.{machineAt, Leaves, Moves, kept, met, reachedBy};
+ghost use Rattle.machine.specs.After.{machineAt, Leaves, Moves, leftAlone, met, reachedBy};
 
 // The controller, the answer and the burst after an operation.
 pub struct After {
@@ -37,7 +37,7 @@ pub struct After {
 
 // The controller as it is, under the guard's answer.
 fn keep(c: Controller, answer: Answer) -> After
-    ensures { λ r. ⌜ r ≡ kept c answer ⌝ }
+    ensures { λ r. ⌜ r ≡ leftAlone c answer ⌝ }
 {
     let burst = Burst::Quiet;
     After {

@@ -27,7 +27,7 @@ use Rattle.descriptor.specs.Fields.{lengthOf, firstByte}
 use Rattle.descriptor.specs.Rules.{sideAt, flagsFault, lengthFault, sumFault, endsAt, nextFault}
 use Rattle.descriptor.specs.declared.Place.{Place}
 use Rattle.chain.specs.Chain.{blockFault, descFault, JSt, JOut, judgeStep, chainOf}
-use Rattle.book.specs.HandOver.{Uses, recordOf, takeOne, takeStep, takenFrom}
+use Rattle.book.specs.HandOver.{Uses, recordedLength, takeOne, handOverStep, takenFrom}
 use Rattle.book.proofs.HandOverLaws.{taken-eq}
 use Rattle.chain.proofs.ChainLaws.{chain-eq}
 use Rattle.descriptor.proofs.RuleLaws.{sideAt-behind, ownFault-pass}
@@ -139,7 +139,7 @@ unfolding takeOne
 take-words1 side x2 u d = refl
 
 pub taken-list : (w : ℕ → ℕ) (side : Side) (u : Uses) (ds : List ℕ) → Linked w ds → Unmet (u .0) ds → takenFrom w side u (start ds) ≡ takeAll w side u ds
-unfolding takeStep
+unfolding handOverStep
 taken-list w side u [] l f = taken-eq w side u 0 ∙ rw goodPtr-zero refl
 taken-list w side u (d ∷ ds) l f =
     taken-eq w side u (addr d)
@@ -151,7 +151,7 @@ pub record Taken (w : ℕ → ℕ) (side : Side) (u out : Uses) (qs : List (List
   pub words : out .0 ≡ addAll (u .0) ds
   pub sole : Sole (out .0) (ds ++ flat qs)
   pub recorded : Recorded (out .1) (gain side ds (receiving qs))
-  pub lengths : All (λ d. getD (out .1) d 0 ≡ recordOf side (w (d + 2))) ds
+  pub lengths : All (λ d. getD (out .1) d 0 ≡ recordedLength side (w (d + 2))) ds
   pub others : (k : ℕ) → None k ds → getD (out .1) k 0 ≡ getD (u .1) k 0
 
 pub list-taken : (w : ℕ → ℕ) (pl : Place) (u : Uses) (qs : List (List ℕ)) (ds : List ℕ) → Linked w ds → Unmet (u .0) ds → Fresh w pl ds

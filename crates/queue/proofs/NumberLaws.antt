@@ -6,7 +6,7 @@
 --     queueAt, without          the queue of a number; all the others
 --     sole-at, part-all, part-of   its words and those of the others are in use; it is among all, and any other is among the others
 --     linked-each               links by number are links of all
---     Marked, marked            a mark in queue q: every word of every other queue is left as it was
+--     Marked, marked-there      a mark in queue q: every word of every other queue is left as it was
 use Prim.Native.Nat.{ℕ, zero, suc, _+_, _*_, _%_}
 use mathlib.Core.Path.{_≡_, refl, ap}
 use mathlib.Core.Bool.{Bool, true, false}
@@ -105,9 +105,9 @@ pub record Marked (w v : ℕ → ℕ) (n : Mode) (qs : List (List ℕ)) (q : ℕ
   pub there : (j : ℕ) → j ≢ q → All (Same w v) (queueAt qs j)
   pub left : (j : ℕ) → j ≢ q → kept v n (queueAt qs j) ≡ kept w n (queueAt qs j)
 
-pub marked : (w v : ℕ → ℕ) (n : Mode) (qs : List (List ℕ)) (q : ℕ) (cs : List ℕ) (d : ℕ) (rs : List ℕ) {u : List ℕ} → Sole u (flat qs)
+pub marked-there : (w v : ℕ → ℕ) (n : Mode) (qs : List (List ℕ)) (q : ℕ) (cs : List ℕ) (d : ℕ) (rs : List ℕ) {u : List ℕ} → Sole u (flat qs)
     → Only d w v → kept w n (queueAt qs q) ≡ cs ++ d ∷ rs → Marked w v n qs q cs d rs
-marked w v n qs q cs d rs s o e =
+marked-there w v n qs q cs d rs s o e =
     let c = change w v n (queueAt qs q) cs d rs (flat (without q qs)) o e (sole-apart (sole-at q qs s)) in
     record {
       here = c;

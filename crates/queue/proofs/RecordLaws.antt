@@ -30,7 +30,7 @@ use Rattle.layout.specs.declared.Side.the-variants.{Transmit, Receive}
 use Rattle.words.specs.WordSet.{emptySet, addFour, dropFour}
 use Rattle.words.proofs.SetLaws.{length-emptySet, getD-emptySet}
 use Rattle.descriptor.specs.Fields.{lengthOf}
-use Rattle.book.specs.HandOver.{Uses, recordOf, takeOne, dropOne}
+use Rattle.book.specs.HandOver.{Uses, recordedLength, takeOne, dropOne}
 use Rattle.queue.proofs.Queue.{All, Off, Apart, Sole, Recorded, flat, receiving, Unmet, addAll, dropAll, takeAll}
 use Rattle.queue.proofs.LinkLaws.{all-left, all-right, all-join, all-map, all-mid}
 use Rattle.queue.proofs.SoleLaws.{count-append, sole-perm, sole-drop, sole-add, off-ne, apart-right, apart-back}
@@ -159,7 +159,7 @@ recorded-empty = record { size = length-emptySet; there = tt; elsewhere = λ k n
 
 -- ---- descriptors taken
 
-take-one : (side : Side) (x2 : ℕ) (u : Uses) (d : ℕ) → takeOne side x2 u d ≡ (addFour (u .0) d, set (u .1) d (recordOf side x2))
+take-one : (side : Side) (x2 : ℕ) (u : Uses) (d : ℕ) → takeOne side x2 u d ≡ (addFour (u .0) d, set (u .1) d (recordedLength side x2))
 unfolding takeOne
 take-one side x2 u d = refl
 
@@ -180,11 +180,11 @@ take-other w side u (d ∷ ds) k n =
     ∙ rw (take-one side (w (d + 2)) u d) (getD-set-other (u .1) d k _ 0 (n .0))
 
 pub take-there : (w : ℕ → ℕ) (side : Side) (u : Uses) (ds : List ℕ) → length (u .1) ≡ 2048 → All (λ d. d ≤ 2044) ds → Apart ds
-    → All (λ d. getD (takeAll w side u ds .1) d 0 ≡ recordOf side (w (d + 2))) ds
+    → All (λ d. getD (takeAll w side u ds .1) d 0 ≡ recordedLength side (w (d + 2))) ds
 take-there w side u [] l b a = tt
 take-there w side u (d ∷ ds) l b a = (
   take-other w side (takeOne side (w (d + 2)) u d) ds d (all-map (Off d) (λ e. d ≢ e) (λ e o q. off-ne d e o (sym q)) ds (a .0))
-      ∙ rw (take-one side (w (d + 2)) u d) (getD-set-same (u .1) d (recordOf side (w (d + 2))) 0 (omega arith)),
+      ∙ rw (take-one side (w (d + 2)) u d) (getD-set-same (u .1) d (recordedLength side (w (d + 2))) 0 (omega arith)),
   take-there w side (takeOne side (w (d + 2)) u d) ds (rw (take-one side (w (d + 2)) u d) (length-set (u .1) d _ ∙ l)) (b .1) (a .1),
 )
 

@@ -16,7 +16,7 @@ use Rattle.controller.specs.declared.Channel.{Channel}
 use Rattle.controller.specs.declared.Controller.{Controller}
 use Rattle.controller.specs.declared.Stepped.{Stepped}
 use Rattle.controller.specs.declared.Arrived.{Arrived}
-use Rattle.controller.specs.Controller.{Moved, Framed, outcome, arrival, stepOf, frameOf, unguardedWrite, idleChannel}
+use Rattle.controller.specs.Controller.{StepDone, Framed, outcome, arrival, stepOf, frameOf, unguardedWrite, idleChannel}
 use Rattle.rig.specs.Record.{Parts, sendingIn, receivingIn, channelsTo, channelsIn, sendingWords, receivingWords, burstWords, txTo, rxTo, controllerIn, savedIn}
 use Rattle.rig.specs.Lent.{engineAt, lent, lentBy, came, cameBy}
 
@@ -45,12 +45,12 @@ pub rx-last : (x : List Channel) (r r′ : List (List ℕ)) {n : ℕ} → n ≡ 
 rx-last x r r′ h e = e ∙ ap (λ (k : ℕ). rxTo k x r) h
 
 module _ (p p′ : Parts) where
-  lent-of : (act : Controller → Moved) (k : Controller) (s : Stepped) (n : ℕ) (b m : List ℕ) → k ≡ controllerIn p → outcome s m ≡ act k → n ≡ s .number
+  lent-of : (act : Controller → StepDone) (k : Controller) (s : Stepped) (n : ℕ) (b m : List ℕ) → k ≡ controllerIn p → outcome s m ≡ act k → n ≡ s .number
       → p′ ≡ savedIn p (s .ctl) → b ≡ burstWords (s .burst) → lent n p′ b m ≡ lentBy p (act (controllerIn p))
   unfolding lentBy
   lent-of act k s n b m ek eo en ep eb =
       let first : lent n p′ b m ≡ lentBy p (outcome s m) = λ i. lent (en i) (ep i) (eb i) m in
-      first ∙ ap (λ (o : Moved). lentBy p o) (eo ∙ ap act ek)
+      first ∙ ap (λ (o : StepDone). lentBy p o) (eo ∙ ap act ek)
 
   pub stepped-of : (m : List ℕ) (q ch : ℕ) (e : Engine) (k : Controller) (s : Stepped) (n : ℕ) (b m′ : List ℕ) → e ≡ engineAt q ch → k ≡ controllerIn p
       → outcome s m′ ≡ stepOf e k m → n ≡ s .number → p′ ≡ savedIn p (s .ctl) → b ≡ burstWords (s .burst)

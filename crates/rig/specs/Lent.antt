@@ -10,7 +10,7 @@ use lib.Dec.{eqb}
 use Rattle.layout.specs.Choice.{pick}
 use Rattle.phases.specs.declared.Engine.{Engine}
 use Rattle.phases.specs.declared.Engine.the-variants.{Reset, Transmit, Receive, TearTransmit, TearReceive}
-use Rattle.controller.specs.Controller.{Moved, Framed}
+use Rattle.controller.specs.Controller.{StepDone, Framed}
 use Rattle.rig.specs.Record.{Parts, savedIn, burstWords}
 
 abbrev pub engineAt : ℕ → ℕ → Engine
@@ -27,7 +27,7 @@ pub record Lent : Type 0 where
 abbrev pub lent : ℕ → Parts → List ℕ → List ℕ → Lent
 lent n p b m = record { answer = n; parts = p; burst = b; mem = m }
 
-unfoldable pub lentBy : Parts → Moved → Lent
+unfoldable pub lentBy : Parts → StepDone → Lent
 lentBy p o = lent (o .number) (savedIn p (o .ctl)) (burstWords (o .burst)) (o .mem)
 
 pub record Came : Type 0 where

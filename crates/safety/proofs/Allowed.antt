@@ -38,7 +38,7 @@ use Rattle.guard.specs.declared.Tail.the-variants.{Of, Nobody}
 use Rattle.guard.specs.Answers.{numberOf, Outcome, accept, refuse}
 use Rattle.guard.specs.Judges.{judgeChain, judgeStart, judgeHead, judgeRegister, tailIn, judgeAppend, atTail, judgeLast, judgeWord, judgeClass, judge}
 use Rattle.controller.specs.declared.Controller.{Controller}
-use Rattle.controller.specs.Controller.{Moved, answer, unguardedWrite, registerWrite}
+use Rattle.controller.specs.Controller.{StepDone, answer, unguardedWrite, registerWrite}
 use Rattle.safety.specs.Follows.{Alike, Agrees, Carried}
 
 -- ---- tables that say the same

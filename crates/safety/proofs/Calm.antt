@@ -41,7 +41,7 @@ use Rattle.queue.proofs.NumberLaws.{part-all, queueAt, linked-each}
 use Rattle.queue.proofs.SetLaws.{queue-kept, length-kept, length-starts, start-number, heads-starts}
 use Rattle.queue.proofs.StateLaws.{Settled, settles, release-parts}
 use Rattle.machine.specs.Machine.{Machine, worldOf, withWorld}
-use Rattle.safety.proofs.Inv.{phaseOf, idle, Serves, RoomIn, Post, postOf, Common, commonOf, over, wordsOf, modeOf, Sized, Held, Turn, Inv}
+use Rattle.safety.proofs.Inv.{phaseOf, idle, Serves, RoomIn, Post, postOf, Common, commonOf, over, wordsOf, modeOf, Sized, Held, TearingFits, Inv}
 use Rattle.safety.proofs.Frame.{SameLength}
 use Rattle.safety.proofs.Serve.{serves-live, serves-new, room-new}
 
@@ -89,7 +89,7 @@ bookOf s = record { mem = s .mem; kinds = s .kinds; state = s .state; used = s .
 
 -- ---- it is the invariant
 
-turn-of : (c : Common) (p : Post) (rests : Bool) → p .booked ≡ p .tearing → Duty c p rests → Turn c p rests
+turn-of : (c : Common) (p : Post) (rests : Bool) → p .booked ≡ p .tearing → Duty c p rests → TearingFits c p rests
 turn-of c p rests e d = record {
   settles = at (p .tearing) refl;
   young = d .young;

@@ -27,7 +27,7 @@ use Rattle.guard.specs.Guard.{admitted, guestWrite}
 use Rattle.kinds.specs.Kinds.{kindNumber, judgeKind, kindChange}
 use Rattle.words.specs.Word.{word}
 use Rattle.controller.specs.declared.Controller.{Controller}
-use Rattle.controller.specs.Controller.{Moved, unguardedWrite}
+use Rattle.controller.specs.Controller.{StepDone, unguardedWrite}
 use Rattle.machine.specs.Machine.{Machine, write, kind, apply, worldOf, withWorld, withCtl, carriedOut, applyWrite, applyKind}
 use Rattle.safety.specs.Follows.{Alike, Carried, Handed}
 use Rattle.safety.proofs.Inv.{Inv}
@@ -75,7 +75,7 @@ world-handed c m o s i e a = record {
 
 module _ (a x : ℕ) (o : Outcome) (s : Machine) where
   -- what the controller makes of it
-  abbrev made : Moved
+  abbrev made : StepDone
   made = unguardedWrite a x (s .ctl) (o .world .mem)
 
   carried-is : numberOf (o .answer) ≡ 0 → made .number ≡ 0 → carriedOut a x o s .machine ≡ withCtl (made .ctl) (made .mem) (withWorld (o .world) s)

@@ -20,7 +20,7 @@
 --     Table t, Sized s           tables of their size, whose flags are flags
 --     Held s qs                  all queues: heads, links, words in use, recorded lengths
 --     Shared c                   reset and marks: the book's, through the release's own rules, are the controller's
---     Turn c p idle              teardown of one queue, likewise
+--     TearingFits c p idle              teardown of one queue, likewise
 --     Inv s                      the invariant
 use Prim.Native.Nat.{ℕ, _+_, _≤_, _<_, _^_}
 use mathlib.Core.Path.{_≡_}
@@ -359,7 +359,7 @@ pub record Shared (c : Common) : Type 0 where
   pub ready : c .reset ≡ true → c .waits ≡ false
 
 -- one queue; rests says that its engine is idle
-pub record Turn (c : Common) (p : Post) (rests : Bool) : Type 0 where
+pub record TearingFits (c : Common) (p : Post) (rests : Bool) : Type 0 where
   pub settles : pick (eqb (p .cp) teardownDone) false (p .booked) ≡ p .tearing
   pub young : p .tearing ≡ true → p .cp ≢ teardownDone
   pub stage : p .tearing ≡ false → p .stage ≡ 1
@@ -377,6 +377,6 @@ pub record Inv (s : Machine) : Type 0 where
   pub defined : s .ctl .undefined ≡ false
   pub held : Held s qs
   pub shared : Shared (commonOf s)
-  pub turn : (q : ℕ) → q < queues → Turn (commonOf s) (postOf s q) (idle (phaseOf (s .ctl) q))
+  pub turn : (q : ℕ) → q < queues → TearingFits (commonOf s) (postOf s q) (idle (phaseOf (s .ctl) q))
   pub engine : (q : ℕ) → q < queues → Serves (s .kinds) (s .lens) (wordsOf s) (leftOf s qs q) (postOf s q .hdp) (postOf s q .stage) (phaseOf (s .ctl) q)
   pub room : (q : ℕ) → q < queues → RoomIn (sideOf q) (s .kinds) (s .lens) (wordsOf s) (leftOf s qs q)

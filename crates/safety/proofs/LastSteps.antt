@@ -25,7 +25,7 @@ use Rattle.queue.proofs.FreshLaws.{fresh-live}
 use Rattle.queue.proofs.NumberLaws.{queueAt}
 use Rattle.phases.specs.declared.Burst.the-variants.{Quiet}
 use Rattle.machine.specs.Machine.{Machine}
-use Rattle.safety.proofs.Inv.{Fit, Ready, Spot, Latch, Owned, Through, Phase, idle, Serves, Todo, Post, postOf, commonOf, wordsOf, modeOf, leftOf, Turn, Inv}
+use Rattle.safety.proofs.Inv.{Fit, Ready, Spot, Latch, Owned, Through, Phase, idle, Serves, Todo, Post, postOf, commonOf, wordsOf, modeOf, leftOf, TearingFits, Inv}
 use Rattle.safety.proofs.Frame.{lengths-same}
 use Rattle.safety.proofs.Serve.{todo-new}
 use Rattle.safety.proofs.Ends.{Top, good-start, spot-top, spot-is-top, spot-marked, owned-done}
@@ -71,7 +71,7 @@ pub record Closes (f : ℕ → ℕ) (x : ℕ) : Type 0 where
   pub whole : td (f x) ≡ td x
   pub given : owner (f x) ≡ false
 
-module _ (s : Machine) (i : Inv s) (q : ℕ) (l : q < queues) (side : Side) (ph : Phase) (o : Sided q ph) (t : Turn (commonOf s) (postOf s q) (idle ph)) where
+module _ (s : Machine) (i : Inv s) (q : ℕ) (l : q < queues) (side : Side) (ph : Phase) (o : Sided q ph) (t : TearingFits (commonOf s) (postOf s q) (idle ph)) where
   abbrev here : Post
   here = postOf s q
 

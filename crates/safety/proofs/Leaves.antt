@@ -39,7 +39,7 @@ use Rattle.phases.specs.declared.Takes.{Takes}
 use Rattle.phases.specs.declared.Takes.the-variants as Takes
 use Rattle.phases.specs.Transmit.{sendStep, markEoq, clearOwn}
 use Rattle.phases.specs.Receive.{takeStep, markLast, markFirst}
-use Rattle.controller.specs.Controller.{Moved, answer, txOf, rxOf, sendMoved, takeMoved, held, quiet, transmitStep, receiveStep, tearMark, tearStep, allQuiet, resetStep, unlessUndefined, onChannel, stepOf}
+use Rattle.controller.specs.Controller.{StepDone, answer, txOf, rxOf, sendMoved, takeMoved, heldBack, quietEngine, transmitStep, receiveStep, tearMark, tearStep, allQuiet, resetStep, unlessUndefined, onChannel, stepOf}
 use Rattle.machine.specs.Machine.{Machine}
 use Rattle.safety.proofs.Inv.{Spot, TxInv, RxInv, phaseOf, Post, postOf, wordsOf, leftOf, Inv}
 use Rattle.safety.proofs.Ends.{top-start, spot-top, spot-is-top}
@@ -132,8 +132,8 @@ module _ (s : Machine) (i : Inv s) (ch : ℕ) (l : ch < channels) where
   transmit-own =
       let q = queueOf Sides.Transmit ch in
       let c = s .ctl in
-      sent-own s i q ch (sendStep (held c q) (s .mem) (txOf c ch) (hdpOf (c .state) q) (cpOf (c .state) q))
-      (send-own s i q (s .kinds) _ _ (cpOf (c .state) q) (held c q) (txOf c ch) (rw (phase-queue Sides.Transmit c ch) at (i .engine q (queue-lt Sides.Transmit ch l))))
+      sent-own s i q ch (sendStep (heldBack c q) (s .mem) (txOf c ch) (hdpOf (c .state) q) (cpOf (c .state) q))
+      (send-own s i q (s .kinds) _ _ (cpOf (c .state) q) (heldBack c q) (txOf c ch) (rw (phase-queue Sides.Transmit c ch) at (i .engine q (queue-lt Sides.Transmit ch l))))
 
   pub receive-own : Own s i (queueOf Sides.Receive ch) (receiveStep ch (s .ctl) (s .mem) .mem)
   unfolding receiveStep
@@ -149,7 +149,7 @@ module _ (s : Machine) (i : Inv s) (q : ℕ) (l : q < queues) where
   abbrev here : Post
   here = postOf s q
 
-  abbrev Mine : Moved → Type 0
+  abbrev Mine : StepDone → Type 0
   Mine x = Own s i q (x .mem)
 
   none-own : here .hdp ≡ 0 → Mine (tearMark q (s .ctl) (s .mem))
@@ -179,7 +179,7 @@ module _ (s : Machine) (i : Inv s) (q : ℕ) (l : q < queues) where
   pub tear-own : Mine (tearStep q (s .ctl) (s .mem))
   unfolding tearStep
   tear-own =
-      by-pick Mine (both (tearingOf (s .ctl .state) q) (quiet (s .ctl) q)) _ _
+      by-pick Mine (both (tearingOf (s .ctl .state) q) (quietEngine (s .ctl) q)) _ _
       (λ e. next-own (both-left (tearingOf (s .ctl .state) q) _ e)
       (quiet-engine (s .kinds) (s .lens) (wordsOf s) (leftOf s (i .qs) q) _ _ (phaseOf (s .ctl) q)
       (sym (quiet-phase (s .ctl) q) ∙ both-right (tearingOf (s .ctl .state) q) _ e) (i .engine q l)))
@@ -195,18 +195,18 @@ Other (TearTransmit ch) j = j ≢ queueOf Sides.Transmit ch
 Other (TearReceive ch) j = j ≢ queueOf Sides.Receive ch
 
 module _ (s : Machine) (i : Inv s) (j : ℕ) where
-  abbrev Left : Moved → Type 0
+  abbrev Left : StepDone → Type 0
   Left x = All (Same (wordsOf s) (word (x .mem))) (queueAt (i .qs) j)
 
   unmoved : Left (answer 0 (s .ctl) (s .mem))
   unmoved = untouched (wordsOf s) (queueAt (i .qs) j)
 
-  unless-left : (x : Moved) → Left x → Left (unlessUndefined (s .ctl) (s .mem) x)
+  unless-left : (x : StepDone) → Left x → Left (unlessUndefined (s .ctl) (s .mem) x)
   unless-left x h =
       by-pick Left (eqb (length (s .mem)) descBytes) _ _ (λ e. by-pick Left (s .ctl .undefined) _ _ (λ u. unmoved) (λ u. h)) (λ e. unmoved)
 
   -- there is such a channel, or the engine cannot move
-  channel-left : (ch : ℕ) (x : Moved) → (ch < channels → Left x) → Left (unlessUndefined (s .ctl) (s .mem) (onChannel ch (s .ctl) (s .mem) x))
+  channel-left : (ch : ℕ) (x : StepDone) → (ch < channels → Left x) → Left (unlessUndefined (s .ctl) (s .mem) (onChannel ch (s .ctl) (s .mem) x))
   channel-left ch x f = unless-left _ (by-pick Left (ltb ch channels) _ _ (λ e. f (ltb-true ch channels e)) (λ e. unmoved))
 
   pub step-leaves : (e : Engine) → Other e j → Left (stepOf e (s .ctl) (s .mem))

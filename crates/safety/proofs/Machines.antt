@@ -35,10 +35,10 @@ use Rattle.phases.specs.declared.Frame.{Frame}
 use Rattle.phases.specs.declared.Engine.{Engine}
 use Rattle.phases.specs.declared.Engine.the-variants.{Reset, Transmit, Receive, TearTransmit, TearReceive}
 use Rattle.phases.specs.Quiet.{waits}
-use Rattle.controller.specs.Controller.{Moved, idleChannel, rxOf, setRx, unlessUndefined, onChannel, stepOf, held, Framed, frameOf, freshController}
+use Rattle.controller.specs.Controller.{StepDone, idleChannel, rxOf, setRx, unlessUndefined, onChannel, stepOf, heldBack, Framed, frameOf, freshController}
 use Rattle.machine.specs.Machine.{Machine, Op, frame, step, apply, answerOf, withCtl, applyFrame, applyStep, freshMachine}
 use Rattle.safety.specs.Statement.{Safe}
-use Rattle.safety.proofs.Inv.{Fillable, Ready, Phase, sending, taking, phaseOf, Post, postOf, Common, commonOf, wordsOf, modeOf, leftOf, Table, Shared, Turn, Inv}
+use Rattle.safety.proofs.Inv.{Fillable, Ready, Phase, sending, taking, phaseOf, Post, postOf, Common, commonOf, wordsOf, modeOf, leftOf, Table, Shared, TearingFits, Inv}
 use Rattle.safety.proofs.Ends.{top-start}
 use Rattle.safety.proofs.Marks.{side-queue, channel-queue, queue-lt, phase-queue}
 use Rattle.safety.proofs.Touch.{Sided, setPhase, phase-here, fits-table, near-self, near-phase, Stands, shared-of, turn-of, move-near, Fine}
@@ -106,7 +106,7 @@ module _ (s : Machine) (i : Inv s) (ch : ℕ) (there : ch < channels) (n : ℕ) 
       phase : phaseOf (s .ctl) q ≡ taking R.Wait
       phase = phase-queue Sides.Receive (s .ctl) ch ∙ ap (λ (x : Receiving). taking x) (waits-is (rxOf (s .ctl) ch) e)
 
-      turn : Turn (commonOf s) here false
+      turn : TearingFits (commonOf s) here false
       turn = rw phase at (i .turn q l)
 
       ready : Ready (Fillable (s .lens) (wordsOf s)) L (here .hdp) (here .stage)
@@ -156,7 +156,7 @@ frame-arrives n s i =
     let k = queueOf Sides.Receive 0 in
     by-pick (Arrived s) (c .undefined) _ _ (λ e. clash e (i .defined))
     (λ o. by-pick (Arrived s) (both (leb 1 n) (leb n lengthMax)) _ _
-    (λ fits. by-pick (Arrived s) (both (not (eqb (hdpOf (c .state) k) 0)) (both (waits (rxOf c 0)) (not (held c k)))) _ _
+    (λ fits. by-pick (Arrived s) (both (not (eqb (hdpOf (c .state) k) 0)) (both (waits (rxOf c 0)) (not (heldBack c k)))) _ _
     (λ e. let u = both-right (not (eqb (hdpOf (c .state) k) 0)) _ e in
     record {
       inv = taken s i 0 (omega arith) n (leb-true 1 n (both-left (leb 1 n) _ fits)) (leb-true n lengthMax (both-right (leb 1 n) _ fits))
@@ -175,14 +175,14 @@ frame-kept n s i =
 -- ---- a step
 
 -- descriptor memory is fit, and the controller defined
-unless-fit : (s : Machine) → Inv s → (x : Moved) → Fine s x → Fine s (unlessUndefined (s .ctl) (s .mem) x)
+unless-fit : (s : Machine) → Inv s → (x : StepDone) → Fine s x → Fine s (unlessUndefined (s .ctl) (s .mem) x)
 unless-fit s i x f =
     by-pick (Fine s) (eqb (length (s .mem)) descBytes) _ _
     (λ e. by-pick (Fine s) (s .ctl .undefined) _ _ (λ o. clash o (i .defined)) (λ o. f))
     (λ e. clash (eq-eqb (length (s .mem)) descBytes (i .held .fit .size)) e)
 
 -- an engine of a channel that there is not cannot move
-on-channel : (s : Machine) → Inv s → (ch : ℕ) (x : Moved) → (ch < channels → Fine s x) → Fine s (onChannel ch (s .ctl) (s .mem) x)
+on-channel : (s : Machine) → Inv s → (ch : ℕ) (x : StepDone) → (ch < channels → Fine s x) → Fine s (onChannel ch (s .ctl) (s .mem) x)
 on-channel s i ch x f = by-pick (Fine s) (ltb ch channels) _ _ (λ e. f (ltb-true ch channels e)) (λ e. stays-fine s i)
 
 step-fine : (e : Engine) (s : Machine) → Inv s → Fine s (stepOf e (s .ctl) (s .mem))
@@ -207,7 +207,7 @@ fresh-post = record { hdp = 0; cp = 0; stage = 1; mark = false; booked = false; 
 fresh-common : Common
 fresh-common = record { bit = false; reset = false; marks = 0; waits = true; bookReset = false; bookMarks = 0 }
 
-fresh-turn : Turn fresh-common fresh-post true
+fresh-turn : TearingFits fresh-common fresh-post true
 unfolding fresh-common fresh-post
 fresh-turn = record {
   settles = refl;
@@ -265,7 +265,7 @@ fresh-inv kinds f = record {
     channels = length-replicate channels idleChannel;
   };
   defined = refl;
-  held = record {
+  heldBack = record {
     fit = record { size = length-replicate {A = ℕ} descBytes 0; bytes = λ k. rw (getD-same {A = ℕ} descBytes k 0) (omega arith) };
     kinds = f;
     many = length-replicate {A = List ℕ} queues [];

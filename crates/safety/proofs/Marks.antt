@@ -35,7 +35,7 @@ use Rattle.queue.proofs.KeptLaws.{gone-kept}
 use Rattle.queue.proofs.StoreLaws.{Only}
 use Rattle.queue.proofs.NumberLaws.{side-even, side-odd, queueAt, without, sole-at}
 use Rattle.controller.specs.declared.Controller.{Controller}
-use Rattle.safety.proofs.Inv.{Fit, phaseBy, phaseOf, Post, Common, Turn}
+use Rattle.safety.proofs.Inv.{Fit, phaseBy, phaseOf, Post, Common, TearingFits}
 
 -- ---- the queue of a side and a channel
 
@@ -100,7 +100,7 @@ module _ (w v : ℕ → ℕ) (n : Mode) (qs : List (List ℕ)) (q : ℕ) {u : Li
 abbrev pub withRegs : ℕ → ℕ → Post → Post
 withRegs h cp p = record { hdp = h; cp = cp; stage = p .stage; mark = p .mark; booked = p .booked; tearing = p .tearing }
 
-module _ {c : Common} {p : Post} (t : Turn c p false) where
+module _ {c : Common} {p : Post} (t : TearingFits c p false) where
   -- its engine is not idle, so the book has nothing left to see
   turn-agrees : p .booked ≡ p .tearing
   turn-agrees = at (p .booked) (p .tearing) (eqb (p .cp) teardownDone) refl refl (t .settles)
@@ -111,7 +111,7 @@ module _ {c : Common} {p : Post} (t : Turn c p false) where
       at false n true x y s = s
       at false n false x y s = s
 
-  pub turn-move : (h : ℕ) → Turn c (withRegs h (p .cp) p) false
+  pub turn-move : (h : ℕ) → TearingFits c (withRegs h (p .cp) p) false
   turn-move h = record {
     settles = t .settles;
     young = t .young;
@@ -123,7 +123,7 @@ module _ {c : Common} {p : Post} (t : Turn c p false) where
     zeroed = λ m e. clash e refl;
   }
 
-  pub turn-done : goodPtr (p .hdp) ≡ true → (h : ℕ) (rests : Bool) → (rests ≡ true → h ≡ 0) → Turn c (withRegs h (p .hdp) p) rests
+  pub turn-done : goodPtr (p .hdp) ≡ true → (h : ℕ) (rests : Bool) → (rests ≡ true → h ≡ 0) → TearingFits c (withRegs h (p .hdp) p) rests
   turn-done g h rests z = record {
     settles = rw (ne-eqb (p .hdp) teardownDone fair) turn-agrees;
     young = λ e. fair;

@@ -47,7 +47,7 @@ use Rattle.phases.specs.declared.Takes.the-variants.{Went}
 use Rattle.phases.specs.Receive.{toPhase, tooLong, fetch, burstSize, advanced, storeBurst, close, markLast, markFirst, finish, takeStep}
 use Rattle.controller.specs.Controller.{rxOf, takeMoved, added, receiveStep}
 use Rattle.machine.specs.Machine.{Machine}
-use Rattle.safety.proofs.Inv.{Fillable, Roomy, Spot, Latched, Latch, Through, RxInv, idleRx, taking, Post, postOf, commonOf, wordsOf, leftOf, Turn, Inv}
+use Rattle.safety.proofs.Inv.{Fillable, Roomy, Spot, Latched, Latch, Through, RxInv, idleRx, taking, Post, postOf, commonOf, wordsOf, leftOf, TearingFits, Inv}
 use Rattle.safety.proofs.Ends.{latched, spot-linked, spot-next}
 use Rattle.safety.proofs.Marks.{side-queue, channel-queue, queue-lt, phase-queue, last-marked-fits, withRegs, turn-move, turn-done}
 use Rattle.safety.proofs.Touch.{Fine, went, move-fine}
@@ -118,10 +118,10 @@ module _ (s : Machine) (i : Inv s) (ch : ℕ) (l : ch < channels) where
   takes r m f = rw (channel-queue Receive ch) at f
 
   -- no burst, and memory as it was
-  quietly : (ph : Receiving) (h cp : ℕ) → Turn (commonOf s) (withRegs h cp here) (idleRx ph) → Stands h ph → After (toPhase ph h cp) (s .mem)
+  quietly : (ph : Receiving) (h cp : ℕ) → TearingFits (commonOf s) (withRegs h cp here) (idleRx ph) → Stands h ph → After (toPhase ph h cp) (s .mem)
   quietly ph h cp t e = takes _ (s .mem) (move-fine s i q (queue-lt Receive ch l) (taking ph) (side-queue Receive ch) h cp _ _ Quiet tt t e)
 
-  module _ (t : Turn (commonOf s) here false) where
+  module _ (t : TearingFits (commonOf s) here false) where
     -- ---- step 1
 
     fetch-fine : (f : Frame) → Stands (here .hdp) (Fetch f) → After (fetch w f (here .hdp) (here .cp)) (s .mem)
@@ -180,7 +180,7 @@ module _ (s : Machine) (i : Inv s) (ch : ℕ) (l : ch < channels) where
         ended : Receiving
         ended = Ended (record { first = r .first; stored = r .stored + n; left = r .left - n; room = r .room - n; here = min (r .here + n) wordMax })
 
-        on-turn : (b : Bool) → Turn (commonOf s) here (idleRx (pick b more ended))
+        on-turn : (b : Bool) → TearingFits (commonOf s) here (idleRx (pick b more ended))
         on-turn true = t
         on-turn false = t
 
@@ -310,7 +310,7 @@ module _ (s : Machine) (i : Inv s) (ch : ℕ) (l : ch < channels) where
 
   -- ---- every step
 
-  from-phase : (ph : Receiving) → Turn (commonOf s) here (idleRx ph) → Stands (here .hdp) ph
+  from-phase : (ph : Receiving) → TearingFits (commonOf s) here (idleRx ph) → Stands (here .hdp) ph
       → Fine s (takeMoved ch (takeStep (s .mem) ph (here .hdp) (here .cp)) (s .ctl) (s .mem))
   unfolding takeStep
   from-phase Idle t e = quietly Idle (here .hdp) (here .cp) t e

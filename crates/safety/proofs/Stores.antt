@@ -20,7 +20,7 @@ use Rattle.words.specs.Word.{word, put}
 use Rattle.words.specs.WordSet.{has}
 use Rattle.registers.specs.Table.{headOf}
 use Rattle.chain.specs.Chain.{placeOf}
-use Rattle.book.specs.HandOver.{Uses, recordOf, takenFrom}
+use Rattle.book.specs.HandOver.{Uses, recordedLength, takenFrom}
 use Rattle.guard.specs.Judges.{judgeChain, isLast}
 use Rattle.queue.proofs.Queue.{start, All, Linked, Sole, Recorded, flat, receiving}
 use Rattle.queue.proofs.LinkLaws.{all-join, all-map, linked-same}
@@ -83,12 +83,12 @@ store-calm s c k x b f = record {
 -- ---- a chain that was judged
 
 pub judged-todo : (side : Side) (K : List ℕ) (w : ℕ → ℕ) (met : List ℕ) (p : ℕ) (out lens : List ℕ) (j : Judged K w (placeOf side) met p out)
-    → All (λ d. getD lens d 0 ≡ recordOf side (w (d + 2))) (j .ds) → Todo side K lens w (j .ds)
+    → All (λ d. getD lens d 0 ≡ recordedLength side (w (d + 2))) (j .ds) → Todo side K lens w (j .ds)
 judged-todo Transmit K w met p out lens j l = record { fresh = j .fresh; room = j .roomy }
 judged-todo Receive K w met p out lens j l = record { fresh = j .fresh; long = all-map _ _ (λ d e. sym e) (j .ds) l }
 
 pub judged-room : (side : Side) (K : List ℕ) (w : ℕ → ℕ) (met : List ℕ) (p : ℕ) (out lens : List ℕ) (j : Judged K w (placeOf side) met p out)
-    → All (λ d. getD lens d 0 ≡ recordOf side (w (d + 2))) (j .ds) → RoomIn side K lens w (j .ds)
+    → All (λ d. getD lens d 0 ≡ recordedLength side (w (d + 2))) (j .ds) → RoomIn side K lens w (j .ds)
 judged-room Transmit K w met p out lens j l = tt
 judged-room Receive K w met p out lens j l = room-recorded K lens w (j .ds) (j .roomy) l
 

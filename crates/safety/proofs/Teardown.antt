@@ -45,9 +45,9 @@ use Rattle.phases.specs.declared.Receiving.the-variants as R
 use Rattle.phases.specs.Quiet.{quietTx, quietRx}
 use Rattle.controller.specs.declared.Channel.{Channel}
 use Rattle.controller.specs.declared.Controller.{Controller}
-use Rattle.controller.specs.Controller.{Moved, answer, idleChannel, stageOf, setStage, setState, setChannels, allQuiet, quietBy, quiet, idleBy, tearMark, tearClear, tearReport, tearStep, resetStep}
+use Rattle.controller.specs.Controller.{StepDone, answer, idleChannel, stageOf, setStage, setState, setChannels, allQuiet, quietBy, quietEngine, idleBy, tearMark, tearClear, tearReport, tearStep, resetStep}
 use Rattle.machine.specs.Machine.{Machine, withCtl}
-use Rattle.safety.proofs.Inv.{Ready, Phase, sending, taking, phaseBy, phaseOf, idle, Serves, RoomIn, Post, postOf, Common, commonOf, over, wordsOf, leftOf, Sized, Shared, Turn, Inv}
+use Rattle.safety.proofs.Inv.{Ready, Phase, sending, taking, phaseBy, phaseOf, idle, Serves, RoomIn, Post, postOf, Common, commonOf, over, wordsOf, leftOf, Sized, Shared, TearingFits, Inv}
 use Rattle.safety.proofs.Ends.{top-start}
 use Rattle.safety.proofs.Marks.{word-fits, marked-fits, marked-reads}
 use Rattle.safety.proofs.Touch.{Sided, setPhase, phase-channels, phase-here, table-fits, fits-table, near-table, near-hdp, near-cp, near-finished, near-self, near-state, near-stage, near-phase, Stands, shared-of, turn-of, move-near, touch-near, touch-spares, Fine, fine-quiet}
@@ -62,7 +62,7 @@ abbrev pub quietIn : Phase → Bool
 quietIn (sending ph) = quietTx ph
 quietIn (taking ph) = quietRx ph
 
-pub quiet-phase : (c : Controller) (q : ℕ) → quiet c q ≡ quietIn (phaseOf c q)
+pub quiet-phase : (c : Controller) (q : ℕ) → quietEngine c q ≡ quietIn (phaseOf c q)
 quiet-phase c q = at (sideOf q)
   where
     at : (side : Side) → quietBy side c (channelOf q) ≡ quietIn (phaseBy side c (channelOf q))
@@ -120,8 +120,8 @@ cleared p = record { hdp = 0; cp = p .cp; stage = 3; mark = p .mark; booked = p 
 abbrev reported : Post → Post
 reported p = record { hdp = p .hdp; cp = teardownDone; stage = 1; mark = p .mark; booked = p .booked; tearing = false }
 
-module _ {c : Common} {p : Post} {rests : Bool} (t : Turn c p rests) (pending : p .tearing ≡ true) where
-  turn-stage : (n : ℕ) → Turn c (staged n p) rests
+module _ {c : Common} {p : Post} {rests : Bool} (t : TearingFits c p rests) (pending : p .tearing ≡ true) where
+  turn-stage : (n : ℕ) → TearingFits c (staged n p) rests
   turn-stage n = record {
     settles = t .settles;
     young = t .young;
@@ -133,7 +133,7 @@ module _ {c : Common} {p : Post} {rests : Bool} (t : Turn c p rests) (pending : 
     zeroed = t .zeroed;
   }
 
-  turn-clear : Turn c (cleared p) true
+  turn-clear : TearingFits c (cleared p) true
   turn-clear = record {
     settles = t .settles;
     young = t .young;
@@ -145,7 +145,7 @@ module _ {c : Common} {p : Post} {rests : Bool} (t : Turn c p rests) (pending : 
     zeroed = λ m i. refl;
   }
 
-  turn-report : rests ≡ true → Turn c (reported p) rests
+  turn-report : rests ≡ true → TearingFits c (reported p) rests
   turn-report i = record {
     settles = refl;
     young = λ e. clash e refl;
@@ -206,7 +206,7 @@ module _ (s : Machine) (z : Sized s) (q : ℕ) (l : q < queues) where
 
 -- ---- which step comes next
 
-pub three : (P : Moved → Type 0) (n : ℕ) (a b c : Moved) → (n ≡ 1 → P a) → (n ≡ 2 → P b) → (n ≢ 1 → n ≢ 2 → P c)
+pub three : (P : StepDone → Type 0) (n : ℕ) (a b c : StepDone) → (n ≡ 1 → P a) → (n ≡ 2 → P b) → (n ≢ 1 → n ≢ 2 → P c)
     → P (pick (eqb n 1) a (pick (eqb n 2) b c))
 three P n a b c f g h =
     by-pick P (eqb n 1) a _ (λ e. f (eqb-true n 1 e))
@@ -274,7 +274,7 @@ module _ (s : Machine) (i : Inv s) (q : ℕ) (l : q < queues) (pending : postOf 
       fine-quiet (move-near s i q l (reported-stands s (i .sized) q l) (turn-report (i .turn q l) pending (r .rests)) (rw (r .none) (r .serves (wordsOf s) (here .hdp) 1)))
       (λ k f. refl)
 
-  abbrev pub next : Moved
+  abbrev pub next : StepDone
   next =
       pick (eqb (here .stage) 1) (tearMark q (s .ctl) (s .mem))
       (pick (eqb (here .stage) 2) (answer 0 (tearClear q (s .ctl)) (s .mem)) (answer 0 (tearReport q (s .ctl)) (s .mem)))
@@ -290,7 +290,7 @@ module _ (s : Machine) (i : Inv s) (q : ℕ) (l : q < queues) (pending : postOf 
 pub tear-fine : (s : Machine) → Inv s → (q : ℕ) → q < queues → Fine s (tearStep q (s .ctl) (s .mem))
 unfolding tearStep
 tear-fine s i q l =
-    by-pick (Fine s) (both (tearingOf (s .ctl .state) q) (quiet (s .ctl) q)) _ _
+    by-pick (Fine s) (both (tearingOf (s .ctl .state) q) (quietEngine (s .ctl) q)) _ _
     (λ e. next-fine s i q l (both-left (tearingOf (s .ctl .state) q) _ e)
     (quiet-engine (s .kinds) (s .lens) (wordsOf s) (leftOf s (i .qs) q) _ _ (phaseOf (s .ctl) q)
     (sym (quiet-phase (s .ctl) q) ∙ both-right (tearingOf (s .ctl .state) q) _ e) (i .engine q l)))
@@ -328,7 +328,7 @@ reset-booked c s r = at (over c) (s .resets ∙ r)
 abbrev unmarked-post : Post → Post
 unmarked-post p = record { hdp = p .hdp; cp = p .cp; stage = p .stage; mark = false; booked = p .booked; tearing = p .tearing }
 
-turn-reset : {c : Common} {p : Post} {rests : Bool} → Turn c p rests → c .reset ≡ true → Turn (unmarking c) (unmarked-post p) true
+turn-reset : {c : Common} {p : Post} {rests : Bool} → TearingFits c p rests → c .reset ≡ true → TearingFits (unmarking c) (unmarked-post p) true
 turn-reset t r = record {
   settles = t .settles;
   young = t .young;

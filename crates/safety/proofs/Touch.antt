@@ -41,17 +41,17 @@ use Rattle.queue.proofs.Queue.{All, Linked, flat, kept}
 use Rattle.queue.proofs.LinkLaws.{all-join, all-map, all-every, linked-same}
 use Rattle.queue.proofs.StoreLaws.{Same, Same3, sames-three, same-nexts, Only, Change}
 use Rattle.queue.proofs.RoomyLaws.{room-now-same}
-use Rattle.queue.proofs.NumberLaws.{each, queue-of, queueAt, without, Marked, marked as marked-there}
+use Rattle.queue.proofs.NumberLaws.{each, queue-of, queueAt, without, Marked, marked-there}
 use Rattle.phases.specs.declared.Sending.{Sending}
 use Rattle.phases.specs.declared.Receiving.{Receiving}
 use Rattle.phases.specs.declared.Burst.{Burst}
 use Rattle.phases.specs.declared.Burst.the-variants.{Quiet}
 use Rattle.controller.specs.declared.Channel.{Channel}
 use Rattle.controller.specs.declared.Controller.{Controller}
-use Rattle.controller.specs.Controller.{Moved, answer, idleChannel, txOf, rxOf, stageOf, setTx, setRx, setStage, setState, setTotals, setRegs}
+use Rattle.controller.specs.Controller.{StepDone, answer, idleChannel, txOf, rxOf, stageOf, setTx, setRx, setStage, setState, setTotals, setRegs}
 use Rattle.machine.specs.Machine.{Machine, withCtl}
 use Rattle.safety.specs.Statement.{InPlace}
-use Rattle.safety.proofs.Inv.{Fit, Phase, sending, taking, phaseBy, phaseOf, idle, Serves, RoomIn, Post, postOf, Common, commonOf, over, wordsOf, modeOf, leftOf, Table, Sized, Shared, Turn, Inv}
+use Rattle.safety.proofs.Inv.{Fit, Phase, sending, taking, phaseBy, phaseOf, idle, Serves, RoomIn, Post, postOf, Common, commonOf, over, wordsOf, modeOf, leftOf, Table, Sized, Shared, TearingFits, Inv}
 use Rattle.safety.proofs.Frame.{kept-part, lengths-same}
 use Rattle.safety.proofs.Serve.{serves-new}
 use Rattle.safety.proofs.Marks.{spared, withRegs}
@@ -245,7 +245,7 @@ module _ (s : Machine) (d : Controller) (q : ℕ) (n : Near (s .ctl) d q) (m : L
 pub shared-of : {c c′ : Common} → c′ ≡ c → Shared c → Shared c′
 shared-of e x = rw e x
 
-pub turn-of : {c c′ : Common} {p p′ : Post} {b b′ : Bool} → c′ ≡ c → p′ ≡ p → b′ ≡ b → Turn c p b → Turn c′ p′ b′
+pub turn-of : {c c′ : Common} {p p′ : Post} {b b′ : Bool} → c′ ≡ c → p′ ≡ p → b′ ≡ b → TearingFits c p b → TearingFits c′ p′ b′
 turn-of e f g t = rw (e, f, g) t
 
 pub serves-of : (K lens : List ℕ) (w : ℕ → ℕ) (L L′ : List ℕ) (p p′ : Post) (ph ph′ : Phase) → L′ ≡ L → p′ ≡ p → ph′ ≡ ph
@@ -265,7 +265,7 @@ module _ (s : Machine) (i : Inv s) (q : ℕ) (l : q < queues) {d : Controller} {
   -- descriptor memory m: every queue is linked there, and every other than q has the words that it had
   put-near : (m : List ℕ) → Fit m → ((j : ℕ) → Linked (word m) (queueAt (i .qs) j)) → ((j : ℕ) → j ≢ q → All (Same3 (wordsOf s) (word m)) (leftOf s (i .qs) j))
       → ((j : ℕ) → j ≢ q → kept (word m) (modeOf s) (queueAt (i .qs) j) ≡ leftOf s (i .qs) j)
-      → Turn (commonOf s) p (idle ph)
+      → TearingFits (commonOf s) p (idle ph)
       → Serves (s .kinds) (s .lens) (word m) (kept (word m) (modeOf s) (queueAt (i .qs) q)) (p .hdp) (p .stage) ph
       → RoomIn (sideOf q) (s .kinds) (s .lens) (word m) (kept (word m) (modeOf s) (queueAt (i .qs) q))
       → Inv (withCtl d m s)
@@ -282,7 +282,7 @@ module _ (s : Machine) (i : Inv s) (q : ℕ) (l : q < queues) {d : Controller} {
         defined = n .defined ∙ i .defined;
         held = record { fit = f; kinds = h .kinds; many = h .many; heads = h .heads; linked = k; sole = h .sole; recorded = h .recorded };
         shared = shared-of common (i .shared);
-        turn = each (λ j. j < queues → Turn (commonOf u) (postOf u j) (idle (phaseOf d j))) q
+        turn = each (λ j. j < queues → TearingFits (commonOf u) (postOf u j) (idle (phaseOf d j))) q
             (λ b. turn-of common (x .post) (ap idle (x .phase)) t)
             (λ j o b. turn-of common (post-near s d q n m j b o) (ap idle (n .phase j b o)) (i .turn j b));
         engine = each (λ j. j < queues → Serves (s .kinds) (s .lens) (word m) (leftOf u qs j) (postOf u j .hdp) (postOf u j .stage) (phaseOf d j)) q
@@ -296,7 +296,7 @@ module _ (s : Machine) (i : Inv s) (q : ℕ) (l : q < queues) {d : Controller} {
       }
 
   -- registers, stage and phase alone
-  pub move-near : Turn (commonOf s) p (idle ph) → Serves (s .kinds) (s .lens) (wordsOf s) (leftOf s (i .qs) q) (p .hdp) (p .stage) ph
+  pub move-near : TearingFits (commonOf s) p (idle ph) → Serves (s .kinds) (s .lens) (wordsOf s) (leftOf s (i .qs) q) (p .hdp) (p .stage) ph
       → Inv (withCtl d (s .mem) s)
   move-near t e =
       let w = wordsOf s in
@@ -321,7 +321,7 @@ module _ (s : Machine) (i : Inv s) (q : ℕ) (m : List ℕ) (cs : List ℕ) (d :
   touch-spares = spared (wordsOf s) (word m) (modeOf s) (i .qs) q cs d rs e (i .held .sole) o
 
   -- words 2 and 3 of one descriptor of what is left of queue q change too
-  pub touch-near : q < queues → {c : Controller} {p : Post} {ph : Phase} → Stands s c q p ph → Fit m → Turn (commonOf s) p (idle ph)
+  pub touch-near : q < queues → {c : Controller} {p : Post} {ph : Phase} → Stands s c q p ph → Fit m → TearingFits (commonOf s) p (idle ph)
       → (Change (wordsOf s) (word m) (modeOf s) (queueAt (i .qs) q) cs d rs (flat (without q (i .qs)))
       → Serves (s .kinds) (s .lens) (word m) (kept (word m) Head (cs ++ d ∷ rs)) (p .hdp) (p .stage) ph)
       → Inv (withCtl c m s)
@@ -343,7 +343,7 @@ module _ (s : Machine) (i : Inv s) (q : ℕ) (m : List ℕ) (cs : List ℕ) (d :
 
 -- ---- the result of a step
 
-pub record Fine (s : Machine) (x : Moved) : Type 0 where
+pub record Fine (s : Machine) (x : StepDone) : Type 0 where
   pub inv : Inv (withCtl (x .ctl) (x .mem) s)
   pub number : x .number ≡ 0
   pub inPlace : InPlace (s .kinds) (x .burst)
@@ -354,7 +354,7 @@ pub fine-quiet : {s : Machine} {c : Controller} {m : List ℕ} → Inv (withCtl 
 fine-quiet i f = record { inv = i; number = refl; inPlace = tt; spares = f }
 
 -- a step of the engine of queue q that went: phase, HDP, CP, both totals, burst, memory
-abbrev pub went : ℕ → Phase → ℕ → ℕ → ℕ → ℕ → Burst → List ℕ → Controller → Moved
+abbrev pub went : ℕ → Phase → ℕ → ℕ → ℕ → ℕ → Burst → List ℕ → Controller → StepDone
 went q ph h cp a b burst m c = record { ctl = setRegs q h cp (setTotals a b (setPhase q ph c)); mem = m; burst = burst; number = 0 }
 
 module _ (s : Machine) (z : Sized s) (q : ℕ) (l : q < queues) (ph : Phase) (side : Sided q ph) (h cp a b : ℕ) where
@@ -397,7 +397,7 @@ module _ (s : Machine) (z : Sized s) (q : ℕ) (l : q < queues) (ph : Phase) (si
 module _ (s : Machine) (i : Inv s) (q : ℕ) (l : q < queues) (ph : Phase) (side : Sided q ph) (h cp a b : ℕ) where
   -- phase and registers change, and something may go over the bus
   pub move-fine : (burst : Burst) → InPlace (s .kinds) burst
-      → Turn (commonOf s) (withRegs h cp (postOf s q)) (idle ph)
+      → TearingFits (commonOf s) (withRegs h cp (postOf s q)) (idle ph)
       → Serves (s .kinds) (s .lens) (wordsOf s) (leftOf s (i .qs) q) h (postOf s q .stage) ph
       → Fine s (went q ph h cp a b burst (s .mem) (s .ctl))
   move-fine burst place t e = record {
@@ -410,7 +410,7 @@ module _ (s : Machine) (i : Inv s) (q : ℕ) (l : q < queues) (ph : Phase) (side
   -- words 2 and 3 of one descriptor of what is left of the queue change too
   pub touch-fine : (m : List ℕ) (cs : List ℕ) (d : ℕ) (rs : List ℕ) → Only d (wordsOf s) (word m) → Fit m
       → leftOf s (i .qs) q ≡ cs ++ d ∷ rs
-      → Turn (commonOf s) (withRegs h cp (postOf s q)) (idle ph)
+      → TearingFits (commonOf s) (withRegs h cp (postOf s q)) (idle ph)
       → (Change (wordsOf s) (word m) (modeOf s) (queueAt (i .qs) q) cs d rs (flat (without q (i .qs)))
       → Serves (s .kinds) (s .lens) (word m) (kept (word m) Head (cs ++ d ∷ rs)) h (postOf s q .stage) ph)
       → Fine s (went q ph h cp a b Quiet m (s .ctl))

@@ -41,9 +41,9 @@ use Rattle.phases.specs.declared.Sent.{Sent}
 use Rattle.phases.specs.declared.Sends.{Sends}
 use Rattle.phases.specs.declared.Sends.the-variants.{Went, Unfit}
 use Rattle.phases.specs.Transmit.{toPhase, latched, fetch, advanced, readBurst, close, markEoq, clearOwn, finish, sendStep}
-use Rattle.controller.specs.Controller.{txOf, sendMoved, added, held, transmitStep}
+use Rattle.controller.specs.Controller.{txOf, sendMoved, added, heldBack, transmitStep}
 use Rattle.machine.specs.Machine.{Machine}
-use Rattle.safety.proofs.Inv.{Sendable, Ready, Spot, Latched, Through, placeAfter, Fetched, TxInv, idleTx, sending, Post, postOf, commonOf, wordsOf, leftOf, Turn, Inv}
+use Rattle.safety.proofs.Inv.{Sendable, Ready, Spot, Latched, Through, placeAfter, Fetched, TxInv, idleTx, sending, Post, postOf, commonOf, wordsOf, leftOf, TearingFits, Inv}
 use Rattle.safety.proofs.Ends.{top-start, latched as latched-next, spot-linked, spot-next}
 use Rattle.safety.proofs.Marks.{side-queue, channel-queue, queue-lt, phase-queue, word-fits, marked-fits, marked-reads, withRegs, turn-move, turn-done}
 use Rattle.safety.proofs.Touch.{Fine, went, move-fine}
@@ -109,10 +109,10 @@ module _ (s : Machine) (i : Inv s) (ch : ℕ) (l : ch < channels) where
   sends r m f = rw (channel-queue Transmit ch) at f
 
   -- no burst, and memory as it was
-  quietly : (ph : Sending) (h cp : ℕ) → Turn (commonOf s) (withRegs h cp here) (idleTx ph) → Stands h ph → After (toPhase ph h cp) (s .mem)
+  quietly : (ph : Sending) (h cp : ℕ) → TearingFits (commonOf s) (withRegs h cp here) (idleTx ph) → Stands h ph → After (toPhase ph h cp) (s .mem)
   quietly ph h cp t e = sends _ (s .mem) (move-fine s i q (queue-lt Transmit ch l) (sending ph) (side-queue Transmit ch) h cp _ _ Quiet tt t e)
 
-  module _ (t : Turn (commonOf s) here false) where
+  module _ (t : TearingFits (commonOf s) here false) where
     -- ---- step 1
 
     fetch-fine : (pl : Place) → sideAt pl ≡ Transmit → (p : ℕ) (z : Spot w L p (here .hdp) (here .stage)) → Sendable (s .kinds) w pl (z .d ∷ z .rs)
@@ -138,8 +138,8 @@ module _ (s : Machine) (i : Inv s) (ch : ℕ) (l : ch < channels) where
 
     -- a new packet
     new-fine : Ready (Sendable (s .kinds) w Start) L (here .hdp) (here .stage)
-        → After (pick (held (s .ctl) q) (toPhase New (here .hdp) (here .cp)) (fetch w Start (here .hdp) (here .hdp) (here .cp))) (s .mem)
-    new-fine r = at (held (s .ctl) q) refl
+        → After (pick (heldBack (s .ctl) q) (toPhase New (here .hdp) (here .cp)) (fetch w Start (here .hdp) (here .hdp) (here .cp))) (s .mem)
+    new-fine r = at (heldBack (s .ctl) q) refl
       where
         fetches : ((here .stage ≡ 1) × (start L ≡ here .hdp) × Sendable (s .kinds) w Start L) ⊎ ((here .stage ≡ 2) × (L ≡ [])) → here .stage ≡ 1
             → After (fetch w Start (here .hdp) (here .hdp) (here .cp)) (s .mem)
@@ -163,7 +163,7 @@ module _ (s : Machine) (i : Inv s) (ch : ℕ) (l : ch < channels) where
             (rw (top .is) at (x .2))
         fetches (inr x) one = absurd (omega (arith, one, x .0))
 
-        at : (b : Bool) → held (s .ctl) q ≡ b
+        at : (b : Bool) → heldBack (s .ctl) q ≡ b
             → After (pick b (toPhase New (here .hdp) (here .cp)) (fetch w Start (here .hdp) (here .hdp) (here .cp))) (s .mem)
         at true e = quietly New (here .hdp) (here .cp) t r
         at false e = fetches (r .state) (t .stage (not-held (resetOf (s .ctl .state)) (tearingOf (s .ctl .state) q) e))
@@ -187,7 +187,7 @@ module _ (s : Machine) (i : Inv s) (ch : ℕ) (l : ch < channels) where
         ended : Sending
         ended = Ended (record { sop = r .sop; word3 = r .word3; sum = r .sum; next = r .next; eop = r .eop })
 
-        on-turn : (b : Bool) → Turn (commonOf s) here (idleTx (pick b more ended))
+        on-turn : (b : Bool) → TearingFits (commonOf s) here (idleTx (pick b more ended))
         on-turn true = t
         on-turn false = t
 
@@ -287,8 +287,8 @@ module _ (s : Machine) (i : Inv s) (ch : ℕ) (l : ch < channels) where
 
   -- ---- every step
 
-  from-phase : (ph : Sending) → Turn (commonOf s) here (idleTx ph) → Stands (here .hdp) ph
-      → Fine s (sendMoved ch (sendStep (held (s .ctl) q) (s .mem) ph (here .hdp) (here .cp)) (s .ctl) (s .mem))
+  from-phase : (ph : Sending) → TearingFits (commonOf s) here (idleTx ph) → Stands (here .hdp) ph
+      → Fine s (sendMoved ch (sendStep (heldBack (s .ctl) q) (s .mem) ph (here .hdp) (here .cp)) (s .ctl) (s .mem))
   unfolding sendStep
   from-phase Idle t e = quietly Idle (here .hdp) (here .cp) t e
   from-phase New t e = new-fine t e

@@ -30,7 +30,7 @@ use Rattle.guard.specs.declared.Tail.{Tail}
 use Rattle.guard.specs.declared.Tail.the-variants.{Of, Nobody}
 use Rattle.guard.specs.Answers.{Outcome, numberOf, accept, refuse}
 use Rattle.guard.specs.Judges.{judgeChain, isLast, tailIn, judgeAppend, atTail, judgeLast, judgeWord}
-use Rattle.controller.specs.Controller.{Moved, answer, unguardedWrite}
+use Rattle.controller.specs.Controller.{StepDone, answer, unguardedWrite}
 use Rattle.machine.specs.Machine.{Machine, Happened, withWorld, withCtl, carriedOut}
 use Rattle.safety.specs.Statement.{InPlace}
 use Rattle.safety.proofs.Inv.{wordsOf, Inv}
@@ -62,7 +62,7 @@ module _ (a v : ℕ) (s : Machine) where
   passes-fault n x t f = fault-holds (Passes a v s) n x (refuse n t) f (λ h. passes-refuse n t h)
 
   -- x is what the controller makes of it
-  pub passes-accept : (e : Effect) (t : World) (x : Moved) → unguardedWrite a v (s .ctl) (t .mem) ≡ x → x .number ≡ 0
+  pub passes-accept : (e : Effect) (t : World) (x : StepDone) → unguardedWrite a v (s .ctl) (t .mem) ≡ x → x .number ≡ 0
       → Inv (withCtl (x .ctl) (x .mem) (withWorld t s)) → Passes a v s (accept e t)
   passes-accept e t x q z i n = rw (q, eq-eqb (x .number) 0 z) (record { inv = i; answered = omega arith; inPlace = tt })
 

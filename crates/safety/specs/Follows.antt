@@ -39,7 +39,7 @@ use Rattle.kinds.specs.Kinds.{judgeKind, kindChange}
 use Rattle.phases.specs.declared.Sending.the-variants as S
 use Rattle.phases.specs.declared.Receiving.the-variants as R
 use Rattle.controller.specs.declared.Controller.{Controller}
-use Rattle.controller.specs.Controller.{Moved, txOf, rxOf}
+use Rattle.controller.specs.Controller.{StepDone, txOf, rxOf}
 use Rattle.machine.specs.Machine.{Machine, Op, write, kind, apply, worldOf}
 use Rattle.safety.specs.Statement.{Legal}
 
@@ -70,7 +70,7 @@ pub record Agrees (s : World) (c : Controller) : Type 0 where
   pub there : length (c .state) ≡ stateWords
   pub defined : c .undefined ≡ false
 
-pub record Carried (x : Moved) (t : World) : Type 0 where
+pub record Carried (x : StepDone) (t : World) : Type 0 where
   pub number : x .number ≡ 0
   pub mem : x .mem ≡ t .mem
   pub alike : Alike (t .state) (x .ctl .state)

@@ -5,7 +5,7 @@ use borrow.Author.Needs.{needs}
 use borrow.Fn.Kinds.{In}
 use borrow.Fn.PlainCycle.{Measures, is, falls, and}
 use Rattle.words.specs.WordSet.{inUse}
-use Rattle.book.specs.declared.Turn.the-variants.{Stop, Go}
+use Rattle.book.specs.declared.ReleaseHop.the-variants.{Stop, Go}
 use Rattle.book.proofs.ReleaseLaws.{released-turn, turn-falls}
 use Rattle.book.proofs.release_from.Reads as release-from
 use Rattle.book.proofs.release_from.Kinds as release-from-kinds

@@ -1,7 +1,7 @@
 -- `book::take_at` is one step of the hand-over: each way out is a case of the step. Assumes nothing.
 use borrow.Author.Needs.{needs}
 use Rattle.layout.proofs.ChoiceLaws.{yes-of, no-of}
-use Rattle.book.proofs.HandOverLaws.{takeStep-bad, takeStep-met, takeStep-go}
+use Rattle.book.proofs.HandOverLaws.{handOverStep-bad, handOverStep-met, handOverStep-go}
 use Rattle.book.proofs.take_at.Statement.{statement}
 use Rattle.book.proofs.take_at.Tie as tie
 
@@ -9,7 +9,7 @@ is-good-requires : tie.Need-is-good-requires
 is-good-requires c κs = search needs
 
 returns : tie.Need-returns
-returns c = takeStep-bad _ _ _ _ (no-of (c .before .is-good .ensures) (c .if1 .taken))
+returns c = handOverStep-bad _ _ _ _ (no-of (c .before .is-good .ensures) (c .if1 .taken))
 
 word-number-requires : tie.Need-word-number-requires
 word-number-requires c κs = yes-of (c .before .is-good .ensures) (c .if1 .left)
@@ -20,7 +20,7 @@ four-free-requires c κs = search needs
 returns-2 : tie.Need-returns-2
 returns-2 c =
     let n = c .before .before .before .before in
-    takeStep-met
+    handOverStep-met
     _
     _
     _
@@ -45,7 +45,7 @@ returns-3 : tie.Need-returns-3
 returns-3 c =
     let f = c .before .before .before .before .before in
     let n = f .before .before .before .before in
-    takeStep-go
+    handOverStep-go
     _
     _
     _

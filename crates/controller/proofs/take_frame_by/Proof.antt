@@ -6,7 +6,7 @@ use Rattle.registers.specs.Table.{hdpOf}
 use Rattle.phases.specs.declared.Receiving.the-variants.{Fetch}
 use Rattle.phases.specs.Quiet.{waits}
 use Rattle.controller.specs.declared.Controller.{Controller}
-use Rattle.controller.specs.Controller.{framed, held, setRx}
+use Rattle.controller.specs.Controller.{framed, heldBack, setRx}
 use Rattle.controller.proofs.EntryLaws.{frame-undefined, frame-empty, frame-long, frame-headless, frame-busy, frame-held, frame-taken}
 use borrow.Author.Needs.{needs}
 use Rattle.controller.proofs.take_frame_by.Statement.{statement}
@@ -78,7 +78,7 @@ returns-6 c =
     let a = c .before .before .before .before .before .before .before .before .before .before .before .before .args in
     let first = c .before .before .before .before .before .before .before .hdp-of .ensures ∙ ap (λ (q : ℕ). hdpOf (a .c .state) q) (c .before .before .before .before .before .before .before .before .queue-of .ensures .0) in
     let ready = yes-of (c .before .before .before .before .is-waiting .ensures ∙ ap waits (c .before .before .before .before .before .rx-of .ensures)) (c .before .before .before .if5 .left) in
-    let stopped = sym (c .before .before .is-held .ensures ∙ ap (λ (q : ℕ). held (a .c) q) (c .before .before .before .before .before .before .before .before .queue-of .ensures .0)) ∙ c .before .if6 .taken in
+    let stopped = sym (c .before .before .is-held .ensures ∙ ap (λ (q : ℕ). heldBack (a .c) q) (c .before .before .before .before .before .before .before .before .queue-of .ensures .0)) ∙ c .before .if6 .taken in
     c .answer-frame6 .ensures ∙ sym (frame-held (a .n) (a .c) (c .before .before .before .before .before .before .before .before .before .before .before .if1 .left) (c .before .before .before .before .before .before .before .before .before .before .if2 .left) (c .before .before .before .before .before .before .before .before .before .if3 .left) (λ e. c .before .before .before .before .before .before .if4 .left (first ∙ e)) ready stopped)
 
 set-rx-requires : tie.Need-set-rx-requires
@@ -92,7 +92,7 @@ returns-7 c =
     let a = c .before .before .before .before .before .before .before .before .before .before .before .before .before .args in
     let first = c .before .before .before .before .before .before .before .before .hdp-of .ensures ∙ ap (λ (q : ℕ). hdpOf (a .c .state) q) (c .before .before .before .before .before .before .before .before .before .queue-of .ensures .0) in
     let ready = yes-of (c .before .before .before .before .before .is-waiting .ensures ∙ ap waits (c .before .before .before .before .before .before .rx-of .ensures)) (c .before .before .before .before .if5 .left) in
-    let free = sym (c .before .before .before .is-held .ensures ∙ ap (λ (q : ℕ). held (a .c) q) (c .before .before .before .before .before .before .before .before .before .queue-of .ensures .0)) ∙ c .before .before .if6 .left in
+    let free = sym (c .before .before .before .is-held .ensures ∙ ap (λ (q : ℕ). heldBack (a .c) q) (c .before .before .before .before .before .before .before .before .before .queue-of .ensures .0)) ∙ c .before .before .if6 .left in
     let went = c .before .set-rx .ensures ∙ ap (λ (p : ℕ). setRx 0 (Fetch (record { first = p; stored = 0; left = a .n })) (a .c)) first in
     let law = frame-taken (a .n) (a .c) (c .before .before .before .before .before .before .before .before .before .before .before .before .if1 .left) (c .before .before .before .before .before .before .before .before .before .before .before .if2 .left) (c .before .before .before .before .before .before .before .before .before .before .if3 .left) (λ e. c .before .before .before .before .before .before .before .if4 .left (first ∙ e)) ready free in
     c .answer-frame7 .ensures ∙ ap (λ (d : Controller). framed 0 d) went ∙ sym law

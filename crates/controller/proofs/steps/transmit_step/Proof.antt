@@ -5,7 +5,7 @@ use mathlib.Core.List.{List}
 use Rattle.registers.specs.Table.{hdpOf, cpOf}
 use Rattle.phases.specs.declared.Sends.{Sends}
 use Rattle.phases.proofs.StepLaws.{send-unfit}
-use Rattle.controller.specs.Controller.{held, sendMoved, undefine, transmitStep}
+use Rattle.controller.specs.Controller.{heldBack, sendMoved, undefine, transmitStep}
 use Rattle.controller.proofs.StepLaws.{on-channel, off-channel, send-at}
 use borrow.Author.Needs.{needs}
 use Rattle.controller.proofs.steps.transmit_step.Statement.{statement}
@@ -60,7 +60,7 @@ returns-2 c =
     let m = a .m .now in
     let q = c .before .before .before .before .before .before .before .before .before .before .before .before .queue-of .ensures .0 in
     let x = c .before .before .before .before .before .before .step-transmit .last .0 in
-    let at = send-at m (c .before .before .before .before .before .before .before .is-held .ensures ∙ ap (λ (n : ℕ). held k n) q) (c .before .before .before .before .before .before .before .before .before .before .tx-of .ensures) (c .before .before .before .before .before .before .before .before .before .hdp-of .ensures ∙ ap (λ (n : ℕ). hdpOf (k .state) n) q) (c .before .before .before .before .before .before .before .before .cp-of .ensures ∙ ap (λ (n : ℕ). cpOf (k .state) n) q) in
+    let at = send-at m (c .before .before .before .before .before .before .before .is-held .ensures ∙ ap (λ (n : ℕ). heldBack k n) q) (c .before .before .before .before .before .before .before .before .before .before .tx-of .ensures) (c .before .before .before .before .before .before .before .before .before .hdp-of .ensures ∙ ap (λ (n : ℕ). hdpOf (k .state) n) q) (c .before .before .before .before .before .before .before .before .cp-of .ensures ∙ ap (λ (n : ℕ). cpOf (k .state) n) q) in
     let went = sym (c .before .before .before .before .before .before .step-transmit .ensures ∙ at) ∙ ap (λ (s : Sends). (s, x)) (c .before .before .s .given .1) in
     c .after-sending .ensures x m ∙ sym (on-channel k m (transmitStep (a .ch) k m) (c .before .before .before .before .before .before .before .before .before .before .before .before .before .if1 .left) ∙ ap (λ (y : Sends × List ℕ). sendMoved (a .ch) y k m) went)
 
@@ -75,7 +75,7 @@ returns-3 c =
     let m = a .m .now in
     let q = c .before .before .before .before .before .before .before .before .before .before .before .queue-of .ensures .0 in
     let x = c .before .before .before .before .before .step-transmit .last .0 in
-    let at = send-at m (c .before .before .before .before .before .before .is-held .ensures ∙ ap (λ (n : ℕ). held k n) q) (c .before .before .before .before .before .before .before .before .before .tx-of .ensures) (c .before .before .before .before .before .before .before .before .hdp-of .ensures ∙ ap (λ (n : ℕ). hdpOf (k .state) n) q) (c .before .before .before .before .before .before .before .cp-of .ensures ∙ ap (λ (n : ℕ). cpOf (k .state) n) q) in
+    let at = send-at m (c .before .before .before .before .before .before .is-held .ensures ∙ ap (λ (n : ℕ). heldBack k n) q) (c .before .before .before .before .before .before .before .before .before .tx-of .ensures) (c .before .before .before .before .before .before .before .before .hdp-of .ensures ∙ ap (λ (n : ℕ). hdpOf (k .state) n) q) (c .before .before .before .before .before .before .before .cp-of .ensures ∙ ap (λ (n : ℕ). cpOf (k .state) n) q) in
     let unfit = sym (c .before .before .before .before .before .step-transmit .ensures ∙ at) ∙ ap (λ (s : Sends). (s, x)) (c .before .enum-told .given .1) in
     c .give-undefined .ensures x ∙ ap (λ (y : List ℕ). undefine k y) (send-unfit _ m x _ _ _ unfit) ∙ sym (on-channel k m (transmitStep (a .ch) k m) (c .before .before .before .before .before .before .before .before .before .before .before .before .if1 .left) ∙ ap (λ (y : Sends × List ℕ). sendMoved (a .ch) y k m) unfit)
 
