@@ -2,6 +2,7 @@
 --     u16At, u32At bs i       the number at an offset
 --     marked a b bs           the two-byte mark
 --     needs n bs d            d where n bytes are there, else Bad: "a cut record"
+--     ramMax, recordMax       the most kinds of an `RM` record, and the most bytes of any record
 --     engineMax, engineOf e   the highest number of an engine, and the engine of a number
 --     decodeRam, decodeWrite, decodeKind, decodeFrame, decodeSteps   each kind of record
 --     decode first bs         what the bytes bs begin with; first: no record has been read yet
@@ -33,12 +34,20 @@ marked a b bs = both (eqb (getD bs 0 0) a) (eqb (getD bs 1 0) b)
 abbrev pub needs : ℕ → List ℕ → Decoded → Decoded
 needs n bs d = pick (leb n (length bs)) d Bad
 
+-- the most kinds of an `RM` record: the record's own limit, "1 ≤ N ≤ 16,384" as a kind table's is for now
+abbrev pub ramMax : ℕ
+ramMax = blocksMax
+
+-- no record has more bytes: `RM`, N and the kinds
+abbrev pub recordMax : ℕ
+recordMax = 4 + ramMax
+
 -- "`RM` u16 N and N kinds (first, once)"
 unfoldable pub decodeRam : List ℕ → Decoded
 decodeRam bs =
     let n = u16At bs 2 in
     needs 4 bs
-    (pick (both (leb 1 n) (leb n blocksMax))
+    (pick (both (leb 1 n) (leb n ramMax))
     (needs (4 + n) bs (pick (allKinds (take n (drop 4 bs))) (Good (Ram n) (4 + n)) Bad))
     Bad)
 
