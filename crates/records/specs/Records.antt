@@ -1,5 +1,5 @@
 -- The records of a bench file. Document 01, "The bench": "records, each after a two-byte mark, numbers little-endian".
---     u16At, u32At bs i       the number at an offset
+--     u16At, u32At bs i       the number at an offset; halfEnd: how many numbers two bytes hold
 --     marked a b bs           the two-byte mark
 --     needs n bs d            d where n bytes are there, else Bad: "a cut record"
 --     ramMax, recordMax       the most kinds of an `RM` record, and the most bytes of any record
@@ -24,8 +24,12 @@ use Rattle.records.specs.declared.Decoded.the-variants.{End, Good, Bad}
 abbrev pub u16At : List ℕ → ℕ → ℕ
 u16At bs i = getD bs i 0 + getD bs (i + 1) 0 * 256
 
+-- how many numbers two bytes hold
+abbrev pub halfEnd : ℕ
+halfEnd = 0x1_0000
+
 abbrev pub u32At : List ℕ → ℕ → ℕ
-u32At bs i = u16At bs i + u16At bs (i + 2) * 65536
+u32At bs i = u16At bs i + u16At bs (i + 2) * halfEnd
 
 abbrev pub marked : ℕ → ℕ → List ℕ → Bool
 marked a b bs = both (eqb (getD bs 0 0) a) (eqb (getD bs 1 0) b)

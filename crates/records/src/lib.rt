@@ -14,7 +14,7 @@ ghost use mathlib.Core.List.{_∷_, []};
 ghost use Prim.Native.Nat.{_+_, _≤_, _<_};
 ghost use lib.ListN.{length};
 ghost use Rattle.records.specs.declared.Event.the-variants.{Moved};
-ghost use Rattle.records.specs.Records.{u16At, u32At, marked, engineOf, decodeRam, decodeWrite, decodeKind, decodeFrame, decodeSteps, decodeLater, decode};
+ghost use Rattle.records.specs.Records.{halfEnd, u16At, u32At, marked, engineOf, decodeRam, decodeWrite, decodeKind, decodeFrame, decodeSteps, decodeLater, decode};
 ghost use Rattle.records.specs.Lines.{blank, digitsMax, decimal, hexDigit, hexDigits, hex8, tailWith, lineWith, lineOf, sentLine, badLine, lineMax, Prints};
 
 // One record of a bench file. The kinds of a `Ram` record stand behind its four bytes of mark and N.
@@ -92,7 +92,7 @@ fn number16(bs: &[u8], at: usize) -> u16
 }
 
 fn wider(x: u16) -> u32
-    ensures { λ r. ⌜ (r ≡ x) × (r < 65536) ⌝ }
+    ensures { λ r. ⌜ (r ≡ x) × (r < halfEnd) ⌝ }
 {
     x as u32
 }

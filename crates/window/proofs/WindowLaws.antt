@@ -7,7 +7,7 @@
 --     refilled-read        one that was moved to the front and read into
 use Prim.Native.Nat.{ℕ, zero, suc, _+_, _-_, _≤_, _<_}
 use mathlib.Core.Path.{_≡_, refl, ap, _∙_, sym}
-use mathlib.Core.Bool.{Bool, true, false}
+use mathlib.Core.Bool.{Bool, true, false, not}
 use mathlib.Core.Logic.{_⊎_, inl, inr}
 use mathlib.Core.List.{List, [], _∷_, _++_}
 use native.Mathlib.Nat.{zero-add}
@@ -16,10 +16,11 @@ use native.Mathlib.Omega.{arith}
 use lib.ListN.{length, getD, set, take, drop, length-drop, length-append, length-take}
 use lib.Seq.{paste, take-paste, paste-suc, length-paste, take-nil, drop-nil, length-take-le, length-slice, drop-drop, getD-drop, take-append-add, take-append-le, getD-append-add}
 use lib.Dec.{ltb}
-use borrow.Author.Tests.{ltb-true, ltb-false}
+use borrow.Author.Tests.{ltb-true, ltb-false, lt-ltb, le-ltb}
+use Rattle.layout.specs.Choice.{pick, both}
 use borrow.Rule.Slice.PartMut.{midOf, postOf, putMid, same-len-mid, mid-len}
 use Rattle.window.specs.declared.Window.{Window}
-use Rattle.window.specs.Window.{windowOf, Inside, Refilled, Passed}
+use Rattle.window.specs.Window.{windowOf, Inside, lacks, Refilled, Passed}
 
 append-none : (l : List ℕ) → l ++ [] ≡ l
 append-none [] = refl
@@ -27,6 +28,15 @@ append-none (x ∷ l) = ap (λ (k : List ℕ). x ∷ k) (append-none l)
 
 clash : {A : Type 0} {b : Bool} → b ≡ true → b ≡ false → A
 clash p q = let z : _≡_ {A = ℕ} 0 1 = cc in absurd (omega arith)
+
+both-no : (a : Bool) → both a false ≡ false
+both-no true = refl
+both-no false = refl
+
+-- room is left behind a bytes, or in what is behind them
+ltb-shift : (t : Bool) (a g n : ℕ) → a ≤ n → ltb g (n - a) ≡ t → ltb g (n - a) ≡ ltb (a + g) n
+ltb-shift true a g n h e = e ∙ sym (lt-ltb (a + g) n (omega (arith, ltb-true g (n - a) e, h)))
+ltb-shift false a g n h e = e ∙ sym (le-ltb (a + g) n (omega (arith, ltb-false g (n - a) e, h)))
 
 slice-part : (f t : ℕ) (l : List ℕ) → drop f (take t l) ≡ take (t - f) (drop f l)
 slice-part zero t l = let e : t - 0 ≡ t = omega arith in ap (λ (n : ℕ). take n l) (sym e)
@@ -79,20 +89,25 @@ shift-more x b f i h e =
 -- ---- filled
 
 module _ (wanted : ℕ) (w : Window) (x : List ℕ) (h : Inside w x) where
-  refilled-stay : (wanted ≤ length (windowOf w x)) ⊎ (w .ended ≡ true) → Refilled wanted w x w x
-  refilled-stay e = record {
+  refilled-stay : (wanted ≤ length (windowOf w x)) ⊎ (w .ended ≡ true) → lacks wanted w ≡ false → Refilled wanted w x w x
+  refilled-stay e f = record {
     got = [];
     bytes = sym (append-none (windowOf w x));
     inside = h;
     enough = e;
     stays = λ t. (refl, t);
+    ends = ap (λ (b : Bool). pick b (ltb (w .len - w .from + 0) (length x)) (w .ended)) (sym f);
   }
 
   pub refilled-enough : wanted ≤ w .len - w .from → Refilled wanted w x w x
-  refilled-enough e = refilled-stay (inl (rw (length-window w x h) e))
+  refilled-enough e =
+      refilled-stay (inl (rw (length-window w x h) e))
+      (ap (λ (b : Bool). both b (not (w .ended))) (le-ltb (w .len - w .from) wanted e))
 
   pub refilled-ended : w .ended ≡ true → Refilled wanted w x w x
-  refilled-ended e = refilled-stay (inr e)
+  refilled-ended e =
+      refilled-stay (inr e)
+      (ap (λ (b : Bool). both (ltb (w .len - w .from) wanted) (not b)) e ∙ both-no (ltb (w .len - w .from) wanted))
 
 -- moved to the front as x1, and read into behind the bytes that were left: ys stands there, and the first of them were read
 module _ (wanted : ℕ) (w : Window) (x x1 ys : List ℕ) (got : ℕ) (h : Inside w x) (g : wanted ≤ length x)
@@ -147,11 +162,22 @@ module _ (wanted : ℕ) (w : Window) (x x1 ys : List ℕ) (got : ℕ) (h : Insid
   enough-at false f =
       inl (omega (arith, length-window (filled false) readInto (inside-at false), ltb-false got (length x1 - leftOver) f, length-moved, g))
 
-  pub refilled-read : (t : Bool) → t ≡ ltb got (length x1 - leftOver) → w .ended ≡ false → Refilled wanted w x (filled t) readInto
-  refilled-read t f n = record {
+  ends-is : w .len - w .from < wanted → w .ended ≡ false
+      → ltb got (length x1 - leftOver) ≡ pick (lacks wanted w) (ltb (leftOver + length (take got ys)) (length x)) (w .ended)
+  ends-is f n =
+      let yes : lacks wanted w ≡ true = rw (lt-ltb (w .len - w .from) wanted f, n) in
+      let a : leftOver ≤ length x = omega (arith, h .within) in
+      ap (λ (i : ℕ). ltb got (i - leftOver)) length-moved
+      ∙ ltb-shift (ltb got (length x - leftOver)) leftOver got (length x) a refl
+      ∙ ap (λ (i : ℕ). ltb (leftOver + i) (length x)) (sym (length-take-le got ys k))
+      ∙ ap (λ (b : Bool). pick b (ltb (leftOver + length (take got ys)) (length x)) (w .ended)) (sym yes)
+
+  pub refilled-read : (t : Bool) → t ≡ ltb got (length x1 - leftOver) → w .len - w .from < wanted → w .ended ≡ false → Refilled wanted w x (filled t) readInto
+  refilled-read t f less n = record {
     got = take got ys;
     bytes = read-bytes;
     inside = inside-at t;
     enough = enough-at t (sym f);
     stays = λ y. clash y n;
+    ends = f ∙ ends-is less n;
   }
