@@ -16,7 +16,9 @@ use lib.Dec.{ltb}
 use borrow.Author.Tests.{lt-ltb, le-ltb}
 use Rattle.layout.specs.Choice.{pick}
 use Rattle.phases.specs.declared.Burst.the-variants.{Quiet, Read, Store}
-use Rattle.records.specs.Lines.{Event, wrote, changed, framed, moved, digitsFor, decimal, hexDigit, hexFor, hex8, lineWith, lineOf, sentLine, badLine, lineMax}
+use Rattle.records.specs.declared.Event.{Event}
+use Rattle.records.specs.declared.Event.the-variants.{Wrote, Changed, Framed, Moved}
+use Rattle.records.specs.Lines.{digitsFor, decimal, hexDigit, hexFor, hex8, lineWith, lineOf, sentLine, badLine, lineMax}
 
 -- ---- decimal
 
@@ -90,12 +92,12 @@ lineWith-short c n part h = simp length-append (omega (arith, length-decimal n))
 
 pub length-lineOf : (e : Event) → length (lineOf e) ≤ lineMax
 unfolding lineOf
-length-lineOf (wrote a n) = lineWith-short 87 n (hex8 a) (omega (arith, length-hex8 a))
-length-lineOf (changed b n) = lineWith-short 75 n (decimal b) (length-decimal b .1)
-length-lineOf (framed l n) = lineWith-short 70 n (decimal l) (length-decimal l .1)
-length-lineOf (moved Quiet) = omega arith
-length-lineOf (moved (Read a n)) = lineWith-short 82 n (hex8 a) (omega (arith, length-hex8 a))
-length-lineOf (moved (Store a n)) = lineWith-short 83 n (hex8 a) (omega (arith, length-hex8 a))
+length-lineOf (Wrote a n) = lineWith-short 87 n (hex8 a) (omega (arith, length-hex8 a))
+length-lineOf (Changed b n) = lineWith-short 75 n (decimal b) (length-decimal b .1)
+length-lineOf (Framed l n) = lineWith-short 70 n (decimal l) (length-decimal l .1)
+length-lineOf (Moved Quiet) = omega arith
+length-lineOf (Moved (Read a n)) = lineWith-short 82 n (hex8 a) (omega (arith, length-hex8 a))
+length-lineOf (Moved (Store a n)) = lineWith-short 83 n (hex8 a) (omega (arith, length-hex8 a))
 
 pub length-sentLine : (a b : ℕ) → length (sentLine a b) ≤ lineMax
 unfolding sentLine

@@ -1,8 +1,7 @@
 -- What the size of a record tells, and how much of the input decides it. Assumes nothing.
 --     Sized bs d         if d is a record, it has at least 4 bytes, and bs has them all
 --     decode-sized       what bs begins with is Sized
---     recordMax          the most bytes that a record can have: `RM` with 16,384 kinds
---     decode-append, decode-take   so many bytes of the input decide what it begins with
+--     decode-append, decode-take   recordMax bytes of the input decide what it begins with
 use Prim.Native.Nat.{ℕ, _+_, _≤_, _<_}
 use mathlib.Core.Path.{_≡_, refl, ap, _∙_, sym}
 use mathlib.Core.Bool.{Bool, true, false}
@@ -13,14 +12,13 @@ use lib.Seq.{length-take-le, take-all, take-append-le, drop-append-le}
 use lib.Dec.{eqb, leb}
 use borrow.Author.Tests.{le-leb, leb-true, leb-false, ne-eqb}
 use Rattle.layout.specs.Choice.{pick, both}
-use Rattle.layout.specs.Layout.{blocksMax}
 use Rattle.layout.proofs.ChoiceLaws.{both-right}
 use Rattle.blocks.specs.Kinds.{allKinds}
 use Rattle.records.specs.declared.Record.{Record}
 use Rattle.records.specs.declared.Record.the-variants.{Ram}
 use Rattle.records.specs.declared.Decoded.{Decoded}
 use Rattle.records.specs.declared.Decoded.the-variants.{End, Good, Bad}
-use Rattle.records.specs.Records.{u16At, marked, needs, engineMax, decodeRam, decodeLater, decode}
+use Rattle.records.specs.Records.{u16At, hasMark, needs, ramMax, recordMax, engineMax, decodeRam, decodeLater, decode}
 
 -- ---- size
 
@@ -54,32 +52,29 @@ module _ (bs : List ℕ) where
       let n = u16At bs 2 in
       let kinds = allKinds (take n (drop 4 bs)) in
       sized-needs 4 _
-      (λ h. sized-pick (both (leb 1 n) (leb n blocksMax)) _ Bad
+      (λ h. sized-pick (both (leb 1 n) (leb n ramMax)) _ Bad
       (sized-needs (4 + n) _ (λ g. sized-pick kinds _ Bad (sized-good (Ram n) (4 + n) (omega arith) g) sized-bad))
       sized-bad)
 
   later-sized : Sized bs (decodeLater bs)
   unfolding decodeLater
   later-sized =
-      sized-pick (marked 71 87 bs) _ _ (sized-needs 10 _ (λ h. sized-good _ 10 (omega arith) h))
-      (sized-pick (marked 75 67 bs) _ _ (sized-needs 5 _ (λ h. sized-good _ 5 (omega arith) h))
-      (sized-pick (marked 70 82 bs) _ _ (sized-needs 4 _ (λ h. sized-good _ 4 (omega arith) h))
-      (sized-pick (marked 83 84 bs) _ _ (sized-needs 4 _ (λ h. sized-pick (both (leb (getD bs 2 0) engineMax) (leb 1 (getD bs 3 0))) _ _ (sized-good _ 4 (omega arith) h) sized-bad)) sized-bad)))
+      sized-pick (hasMark 71 87 bs) _ _ (sized-needs 10 _ (λ h. sized-good _ 10 (omega arith) h))
+      (sized-pick (hasMark 75 67 bs) _ _ (sized-needs 5 _ (λ h. sized-good _ 5 (omega arith) h))
+      (sized-pick (hasMark 70 82 bs) _ _ (sized-needs 4 _ (λ h. sized-good _ 4 (omega arith) h))
+      (sized-pick (hasMark 83 84 bs) _ _ (sized-needs 4 _ (λ h. sized-pick (both (leb (getD bs 2 0) engineMax) (leb 1 (getD bs 3 0))) _ _ (sized-good _ 4 (omega arith) h) sized-bad)) sized-bad)))
 
   pub decode-sized : (first : Bool) → Sized bs (decode first bs)
   unfolding decode
-  decode-sized true = sized-needs 2 _ (λ h. sized-pick (marked 82 77 bs) _ _ ram-sized sized-bad)
+  decode-sized true = sized-needs 2 _ (λ h. sized-pick (hasMark 82 77 bs) _ _ ram-sized sized-bad)
   decode-sized false = sized-pick (eqb (length bs) 0) _ _ sized-end (sized-needs 2 _ (λ h. later-sized))
 
 -- ---- so many bytes decide
 
-abbrev pub recordMax : ℕ
-recordMax = 4 + blocksMax
-
 abbrev ramOf : List ℕ → ℕ → Decoded
 ramOf bs n =
     needs 4 bs
-    (pick (both (leb 1 n) (leb n blocksMax))
+    (pick (both (leb 1 n) (leb n ramMax))
     (needs (4 + n) bs (pick (allKinds (take n (drop 4 bs))) (Good (Ram n) (4 + n)) Bad))
     Bad)
 
@@ -87,17 +82,17 @@ module _ (x d : List ℕ) (h : recordMax ≤ length x) where
   enough : (k : ℕ) → k ≤ recordMax → (leb k (length (x ++ d)) ≡ true) × (leb k (length x) ≡ true)
   enough k g = (le-leb k (length (x ++ d)) (simp length-append (omega arith)), le-leb k (length x) (omega arith))
 
-  part : (n : ℕ) → n ≤ blocksMax → take n (drop 4 (x ++ d)) ≡ take n (drop 4 x)
+  part : (n : ℕ) → n ≤ ramMax → take n (drop 4 (x ++ d)) ≡ take n (drop 4 x)
   part n g =
       ap (λ (l : List ℕ). take n l) (drop-append-le 4 x d (omega arith))
       ∙ take-append-le n (drop 4 x) d (simp length-drop (omega arith))
 
-  ram-at : (n : ℕ) (t : Bool) → both (leb 1 n) (leb n blocksMax) ≡ t
+  ram-at : (n : ℕ) (t : Bool) → both (leb 1 n) (leb n ramMax) ≡ t
       → pick t (needs (4 + n) (x ++ d) (pick (allKinds (take n (drop 4 (x ++ d)))) (Good (Ram n) (4 + n)) Bad)) Bad
       ≡ pick t (needs (4 + n) x (pick (allKinds (take n (drop 4 x))) (Good (Ram n) (4 + n)) Bad)) Bad
   ram-at n false e = refl
   ram-at n true e =
-      let g = leb-true n blocksMax (both-right (leb 1 n) (leb n blocksMax) e) in
+      let g = leb-true n ramMax (both-right (leb 1 n) (leb n ramMax) e) in
       let f = enough (4 + n) (omega arith) in
       rw (f .0, f .1, part n g)
 
@@ -108,7 +103,7 @@ module _ (x d : List ℕ) (h : recordMax ≤ length x) where
       let h3 : 3 < length x = omega arith in
       let n : u16At (x ++ d) 2 ≡ u16At x 2 = simp List·getD-append in
       let f = enough 4 (omega arith) in
-      ap (λ (k : ℕ). ramOf (x ++ d) k) n ∙ simp (f .0, f .1) (ram-at (u16At x 2) (both (leb 1 (u16At x 2)) (leb (u16At x 2) blocksMax)) refl)
+      ap (λ (k : ℕ). ramOf (x ++ d) k) n ∙ simp (f .0, f .1) (ram-at (u16At x 2) (both (leb 1 (u16At x 2)) (leb (u16At x 2) ramMax)) refl)
 
   later-append : decodeLater (x ++ d) ≡ decodeLater x
   unfolding decodeLater

@@ -1,6 +1,5 @@
--- What happened, and the line that is printed for it. Document 01, "The bench": "It prints `W` address answer; `K` block answer;
+-- The line that is printed for what happened (`Event`, src/lib.rt). Document 01, "The bench": "It prints `W` address answer; `K` block answer;
 -- `F` length answer; for a burst `R` or `S`, address, bytes". "Addresses are 8 hex capitals, all other numbers decimal."
---     Event             a guest write, a kind change, a frame with its answer; a burst
 --     blank, newline    as bytes
 --     digitsMax, hexDigits   the most digits of a decimal number, and the digits of an address
 --     decimal n, hex8 a the digits, as bytes
@@ -16,14 +15,9 @@ use lib.ListN.{length}
 use lib.Seq.{sets}
 use lib.Dec.{ltb}
 use Rattle.layout.specs.Choice.{pick}
-use Rattle.phases.specs.declared.Burst.{Burst}
 use Rattle.phases.specs.declared.Burst.the-variants.{Quiet, Read, Store}
-
-pub data Event : Type 0 where
-  wrote : ℕ → ℕ → Event
-  changed : ℕ → ℕ → Event
-  framed : ℕ → ℕ → Event
-  moved : Burst → Event
+use Rattle.records.specs.declared.Event.{Event}
+use Rattle.records.specs.declared.Event.the-variants.{Wrote, Changed, Framed, Moved}
 
 -- at most k digits, the last of them at the end
 abbrev pub digitsFor : ℕ → ℕ → List ℕ
@@ -68,12 +62,12 @@ abbrev pub lineWith : ℕ → List ℕ → ℕ → List ℕ
 lineWith letter part n = (letter ∷ blank ∷ []) ++ (part ++ tailWith n)
 
 unfoldable pub lineOf : Event → List ℕ
-lineOf (wrote a n) = lineWith 87 (hex8 a) n
-lineOf (changed b n) = lineWith 75 (decimal b) n
-lineOf (framed l n) = lineWith 70 (decimal l) n
-lineOf (moved Quiet) = []
-lineOf (moved (Read a n)) = lineWith 82 (hex8 a) n
-lineOf (moved (Store a n)) = lineWith 83 (hex8 a) n
+lineOf (Wrote a n) = lineWith 87 (hex8 a) n
+lineOf (Changed b n) = lineWith 75 (decimal b) n
+lineOf (Framed l n) = lineWith 70 (decimal l) n
+lineOf (Moved Quiet) = []
+lineOf (Moved (Read a n)) = lineWith 82 (hex8 a) n
+lineOf (Moved (Store a n)) = lineWith 83 (hex8 a) n
 
 abbrev pub linesOf : List Event → List ℕ
 linesOf [] = []

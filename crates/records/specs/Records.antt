@@ -1,7 +1,8 @@
 -- The records of a bench file. Document 01, "The bench": "records, each after a two-byte mark, numbers little-endian".
---     u16At, u32At bs i       the number at an offset
---     marked a b bs           the two-byte mark
+--     u16At, u32At bs i       the number at an offset; halfEnd: how many numbers two bytes hold
+--     hasMark a b bs           the two-byte mark
 --     needs n bs d            d where n bytes are there, else Bad: a record that is cut
+--     ramMax, recordMax       the most kinds of an `RM` record, and the most bytes of any record
 --     engineMax, engineOf e   the highest number of an engine, and the engine of a number
 --     decodeRam, decodeWrite, decodeKind, decodeFrame, decodeSteps   each kind of record
 --     decode first bs         what the bytes bs begin with; first: no record has been read yet
@@ -23,22 +24,34 @@ use Rattle.records.specs.declared.Decoded.the-variants.{End, Good, Bad}
 abbrev pub u16At : List ℕ → ℕ → ℕ
 u16At bs i = getD bs i 0 + getD bs (i + 1) 0 * 256
 
-abbrev pub u32At : List ℕ → ℕ → ℕ
-u32At bs i = u16At bs i + u16At bs (i + 2) * 65536
+-- how many numbers two bytes hold
+abbrev pub halfEnd : ℕ
+halfEnd = 0x1_0000
 
-abbrev pub marked : ℕ → ℕ → List ℕ → Bool
-marked a b bs = both (eqb (getD bs 0 0) a) (eqb (getD bs 1 0) b)
+abbrev pub u32At : List ℕ → ℕ → ℕ
+u32At bs i = u16At bs i + u16At bs (i + 2) * halfEnd
+
+abbrev pub hasMark : ℕ → ℕ → List ℕ → Bool
+hasMark a b bs = both (eqb (getD bs 0 0) a) (eqb (getD bs 1 0) b)
 
 -- "an unknown, cut or unfit record"
 abbrev pub needs : ℕ → List ℕ → Decoded → Decoded
 needs n bs d = pick (leb n (length bs)) d Bad
+
+-- the most kinds of an `RM` record: the record's own limit, "1 ≤ N ≤ 16,384" as a kind table's is for now
+abbrev pub ramMax : ℕ
+ramMax = blocksMax
+
+-- no record has more bytes: `RM`, N and the kinds
+abbrev pub recordMax : ℕ
+recordMax = 4 + ramMax
 
 -- "`RM` u16 N and N kinds (first, once)"
 unfoldable pub decodeRam : List ℕ → Decoded
 decodeRam bs =
     let n = u16At bs 2 in
     needs 4 bs
-    (pick (both (leb 1 n) (leb n blocksMax))
+    (pick (both (leb 1 n) (leb n ramMax))
     (needs (4 + n) bs (pick (allKinds (take n (drop 4 bs))) (Good (Ram n) (4 + n)) Bad))
     Bad)
 
@@ -71,14 +84,14 @@ decodeSteps bs =
 
 unfoldable pub decodeLater : List ℕ → Decoded
 decodeLater bs =
-    pick (marked 71 87 bs) (decodeWrite bs)
-    (pick (marked 75 67 bs) (decodeKind bs)
-    (pick (marked 70 82 bs) (decodeFrame bs)
-    (pick (marked 83 84 bs) (decodeSteps bs) Bad)))
+    pick (hasMark 71 87 bs) (decodeWrite bs)
+    (pick (hasMark 75 67 bs) (decodeKind bs)
+    (pick (hasMark 70 82 bs) (decodeFrame bs)
+    (pick (hasMark 83 84 bs) (decodeSteps bs) Bad)))
 
 -- "A missing `RM`": nothing at all is one; one byte left over is a cut record
 unfoldable pub decode : Bool → List ℕ → Decoded
 decode first bs =
     pick first
-    (needs 2 bs (pick (marked 82 77 bs) (decodeRam bs) Bad))
+    (needs 2 bs (pick (hasMark 82 77 bs) (decodeRam bs) Bad))
     (pick (eqb (length bs) 0) End (needs 2 bs (decodeLater bs)))

@@ -4,6 +4,7 @@
 // Document 01, "The bench".
 
 use blocks::kinds_fit;
+use layout::BLOCKS_MAX;
 use layout::CHANNELS;
 use phases::Burst;
 use phases::Engine;
@@ -12,14 +13,15 @@ ghost use mathlib.Core.Bool.{true};
 ghost use mathlib.Core.List.{_∷_, []};
 ghost use Prim.Native.Nat.{_+_, _≤_, _<_};
 ghost use lib.ListN.{length};
-ghost use Rattle.records.specs.Records.{u16At, u32At, marked, engineOf, decodeRam, decodeWrite, decodeKind, decodeFrame, decodeSteps, decodeLater, decode};
-ghost use Rattle.records.specs.Lines.{wrote, changed, framed, moved, blank, digitsMax, decimal, hexDigit, hexDigits, hex8, tailWith, lineWith, lineOf, sentLine, badLine, lineMax, Prints};
+ghost use Rattle.records.specs.declared.Event.the-variants.{Moved};
+ghost use Rattle.records.specs.Records.{halfEnd, u16At, u32At, hasMark, engineOf, decodeRam, decodeWrite, decodeKind, decodeFrame, decodeSteps, decodeLater, decode};
+ghost use Rattle.records.specs.Lines.{blank, digitsMax, decimal, hexDigit, hexDigits, hex8, tailWith, lineWith, lineOf, sentLine, badLine, lineMax, Prints};
 
 // One record of a bench file. The kinds of a `Ram` record stand behind its four bytes of mark and N.
 pub enum Record {
-    Ram(u16),
+    Ram(u32),
     Write(u32, u32),
-    Kind(u16, u8),
+    Kind(u32, u8),
     Frame(u16),
     Steps(Engine, u8),
 }
@@ -30,6 +32,20 @@ pub enum Decoded {
     Good(Record, usize),
     Bad,
 }
+
+// What happened: a guest write, a kind change and a frame, each with its answer; a step, with the burst that it made.
+pub enum Event {
+    Wrote(u32, u8),
+    Changed(u32, u8),
+    Framed(u16, u8),
+    Moved(Burst),
+}
+
+// The most kinds of an `RM` record. It is the record's own limit: two bytes hold N in a file, whatever a kind table may have.
+pub const RAM_MAX: usize = BLOCKS_MAX;
+
+// The most bytes of a record: so many of the input, or all that is left of it, decide what stands next.
+pub const RECORD_MAX: usize = RAM_HEAD + RAM_MAX;
 
 // The sizes of the records, with their marks; an `RM` record is its head and N kinds.
 const MARK: usize = 2;
@@ -76,7 +92,7 @@ fn number16(bs: &[u8], at: usize) -> u16
 }
 
 fn wider(x: u16) -> u32
-    ensures { λ r. ⌜ (r ≡ x) × (r < 65536) ⌝ }
+    ensures { λ r. ⌜ (r ≡ x) × (r < halfEnd) ⌝ }
 {
     x as u32
 }
@@ -92,7 +108,7 @@ fn number32(bs: &[u8], at: usize) -> u32
 // Whether these two letters are the mark.
 fn is_marked(bs: &[u8], a: u8, b: u8) -> bool
     requires { ⌜ 2 ≤ length (now bs) ⌝ }
-    ensures { λ r. ⌜ r ≡ marked a b (now (bs .entry)) ⌝ }
+    ensures { λ r. ⌜ r ≡ hasMark a b (now (bs .entry)) ⌝ }
 {
     if bs[0] != a {
         return false;
@@ -100,15 +116,19 @@ fn is_marked(bs: &[u8], a: u8, b: u8) -> bool
     bs[1] == b
 }
 
-// An `RM` record: N and the kinds are asked together.
+// An `RM` record: that there are kinds, and each of them, is asked together.
 fn decode_ram(bs: &[u8]) -> Decoded
     ensures { λ r. ⌜ r ≡ decodeRam (now (bs .entry)) ⌝ }
 {
     if bs.len() < RAM_HEAD {
         return Decoded::Bad;
     }
-    let n = number16(bs, MARK);
-    let size = RAM_HEAD + n as usize;
+    let n = wider(number16(bs, MARK));
+    let blocks = n as usize;
+    if RAM_MAX < blocks {
+        return Decoded::Bad;
+    }
+    let size = RAM_HEAD + blocks;
     if bs.len() < size {
         return Decoded::Bad;
     }
@@ -137,7 +157,7 @@ fn decode_kind(bs: &[u8]) -> Decoded
     if bs.len() < KIND {
         return Decoded::Bad;
     }
-    let b = number16(bs, MARK);
+    let b = wider(number16(bs, MARK));
     let kind = bs[KIND_AT];
     let record = Record::Kind(b, kind);
     Decoded::Good(record, KIND)
@@ -362,39 +382,28 @@ fn put_number_line(out: &mut [u8], at: usize, letter: u8, b: u64, n: u64) -> usi
     put_tail(out, tail, n)
 }
 
-// The line of a guest write: its address and the answer.
-pub fn put_wrote(out: &mut [u8], at: usize, a: u32, n: u8) -> usize
-    requires { ⌜ at + lineMax ≤ length (now out) ⌝ }
-    ensures { λ r. ⌜ Prints (now (out .entry)) at (lineOf (wrote a n)) (now (out .exit)) r ⌝ }
-{
-    put_address_line(out, at, b'W', a, n as u64)
-}
-
-// The line of a kind change: its block and the answer.
-pub fn put_changed(out: &mut [u8], at: usize, b: u16, n: u8) -> usize
-    requires { ⌜ at + lineMax ≤ length (now out) ⌝ }
-    ensures { λ r. ⌜ Prints (now (out .entry)) at (lineOf (changed b n)) (now (out .exit)) r ⌝ }
-{
-    put_number_line(out, at, b'K', b as u64, n as u64)
-}
-
-// The line of a frame: its length and the answer.
-pub fn put_framed(out: &mut [u8], at: usize, l: u16, n: u8) -> usize
-    requires { ⌜ at + lineMax ≤ length (now out) ⌝ }
-    ensures { λ r. ⌜ Prints (now (out .entry)) at (lineOf (framed l n)) (now (out .exit)) r ⌝ }
-{
-    put_number_line(out, at, b'F', l as u64, n as u64)
-}
-
 // The line of a burst: its address and how many bytes it moves. A step without a burst has none.
-pub fn put_burst(out: &mut [u8], at: usize, b: Burst) -> usize
+fn put_burst(out: &mut [u8], at: usize, b: Burst) -> usize
     requires { ⌜ at + lineMax ≤ length (now out) ⌝ }
-    ensures { λ r. ⌜ Prints (now (out .entry)) at (lineOf (moved b)) (now (out .exit)) r ⌝ }
+    ensures { λ r. ⌜ Prints (now (out .entry)) at (lineOf (Moved b)) (now (out .exit)) r ⌝ }
 {
     match b {
         Burst::Quiet => at,
         Burst::Read(a, n) => put_address_line(out, at, b'R', a, n as u64),
         Burst::Store(a, n) => put_address_line(out, at, b'S', a, n as u64),
+    }
+}
+
+// The line of what happened.
+pub fn put_event(out: &mut [u8], at: usize, e: Event) -> usize
+    requires { ⌜ at + lineMax ≤ length (now out) ⌝ }
+    ensures { λ r. ⌜ Prints (now (out .entry)) at (lineOf e) (now (out .exit)) r ⌝ }
+{
+    match e {
+        Event::Wrote(a, n) => put_address_line(out, at, b'W', a, n as u64),
+        Event::Changed(b, n) => put_number_line(out, at, b'K', b as u64, n as u64),
+        Event::Framed(l, n) => put_number_line(out, at, b'F', l as u64, n as u64),
+        Event::Moved(b) => put_burst(out, at, b),
     }
 }
 

@@ -1,5 +1,6 @@
 -- The parts put together: what an operation left, and the line that was printed for it. Assumes nothing.
---     write-plays, kind-plays, frame-goes, step-goes   one operation and its line
+--     write-tells, kind-tells, frame-tells, step-tells   what happened in one operation
+--     tells-plays                 what happened, and its line
 --     goes-none, goes-more        no step; one more behind those made
 --     ram-plays, steps-goes       a `Ram` record, a `Steps` record
 --     record-plays                the record that was met
@@ -16,14 +17,17 @@ use Rattle.phases.specs.declared.Engine.{Engine}
 use Rattle.controller.specs.declared.Controller.{Controller}
 use Rattle.machine.specs.declared.After.{After}
 use Rattle.machine.specs.Machine.{Machine, step, apply, applyWrite, applyKind, applyFrame, applyStep}
-use Rattle.machine.specs.After.{machineAt, Leaves, Moves}
+use Rattle.machine.specs.After.{machineAt, Leaves, Moves as Carries}
 use Rattle.records.specs.declared.Record.{Record}
 use Rattle.records.specs.declared.Record.the-variants.{Ram, Write, Kind, Frame, Steps}
-use Rattle.records.specs.Lines.{Event, wrote, changed, framed, moved, lineOf, linesOf, lineMax, Prints}
+use Rattle.records.specs.declared.Event.{Event}
+use Rattle.records.specs.declared.Event.the-variants.{Wrote, Changed, Framed, Moved}
+use Rattle.records.specs.Lines.{lineOf, linesOf, lineMax, Prints}
 use Rattle.records.proofs.PrintLaws.{prints-then}
+use Rattle.replay.specs.declared.Happening.{Happening}
 use Rattle.replay.specs.declared.Played.{Played}
 use Rattle.replay.specs.Replay.{stepsOf, recordOf}
-use Rattle.replay.specs.Plays.{Plays, Goes}
+use Rattle.replay.specs.Plays.{Tells, Moves, Shows, Plays, Goes}
 
 -- ---- lines
 append-none : (l : List ℕ) → l ++ [] ≡ l
@@ -45,62 +49,75 @@ one-line e {x} {y} {i} {j} p = subst (λ (l : List ℕ). Prints x i l y j) (sym 
 pub line-end : {x y : List ℕ} {i j : ℕ} {l : List ℕ} → Prints x i l y j → length l ≤ lineMax → j ≤ i + lineMax
 line-end p h = omega (arith, p .ends, h)
 
--- ---- one operation
-module _ (c : Controller) (m k t u l : List ℕ) (w : After) (m1 k1 t1 u1 l1 x : List ℕ) (at : ℕ) (y : List ℕ) (n j : ℕ) (i : n ≡ numberOf (w .answer)) where
-  pub write-plays : (a v : ℕ) → Leaves (applyWrite a v (machineAt c m k t u l)) w m1 k1 t1 u1 l1 → Prints x at (lineOf (wrote a n)) y j
-      → Plays (recordOf (Write a v) (machineAt c m k t u l)) (record { ctl = w .ctl; end = j }) m1 k1 t1 u1 l1 x at y
+-- ---- what happened in one operation
+module _ (c : Controller) (m k t u l : List ℕ) (w : After) (m1 k1 t1 u1 l1 : List ℕ) (n : ℕ) (i : n ≡ numberOf (w .answer)) where
+  pub write-tells : (a v : ℕ) → Leaves (applyWrite a v (machineAt c m k t u l)) w m1 k1 t1 u1 l1
+      → Tells (recordOf (Write a v) (machineAt c m k t u l)) (record { ctl = w .ctl; event = Wrote a n }) m1 k1 t1 u1 l1
   unfolding recordOf
-  write-plays a v h p = record {
+  write-tells a v h = record {
+    event = ap (λ (z : ℕ). Wrote a z ∷ []) (sym (i ∙ ap numberOf (h .answer)));
     ctl = h .ctl;
     mem = h .mem;
     kinds = h .kinds;
     state = h .state;
     used = h .used;
     lens = h .lens;
-    text = one-line (wrote a _) (subst (λ (z : ℕ). Prints x at (lineOf (wrote a z)) y j) (i ∙ ap numberOf (h .answer)) p);
   }
 
-  pub kind-plays : (d q : ℕ) → Leaves (applyKind d q (machineAt c m k t u l)) w m1 k1 t1 u1 l1 → Prints x at (lineOf (changed d n)) y j
-      → Plays (recordOf (Kind d q) (machineAt c m k t u l)) (record { ctl = w .ctl; end = j }) m1 k1 t1 u1 l1 x at y
+  pub kind-tells : (d q : ℕ) → Leaves (applyKind d q (machineAt c m k t u l)) w m1 k1 t1 u1 l1
+      → Tells (recordOf (Kind d q) (machineAt c m k t u l)) (record { ctl = w .ctl; event = Changed d n }) m1 k1 t1 u1 l1
   unfolding recordOf
-  kind-plays d q h p = record {
+  kind-tells d q h = record {
+    event = ap (λ (z : ℕ). Changed d z ∷ []) (sym (i ∙ ap numberOf (h .answer)));
     ctl = h .ctl;
     mem = h .mem;
     kinds = h .kinds;
     state = h .state;
     used = h .used;
     lens = h .lens;
-    text = one-line (changed d _) (subst (λ (z : ℕ). Prints x at (lineOf (changed d z)) y j) (i ∙ ap numberOf (h .answer)) p);
   }
 
-pub frame-goes : (n : ℕ) (c : Controller) (r : After) (i : ℕ) (x : List ℕ) (at : ℕ) (y : List ℕ) (j : ℕ) → ((m : List ℕ) → Moves (applyFrame n) c m r m)
-    → i ≡ numberOf (r .answer) → Prints x at (lineOf (framed n i)) y j → (m : List ℕ) → Goes (recordOf (Frame n)) c m (record { ctl = r .ctl; end = j }) m x at y
+pub frame-tells : (n : ℕ) (c : Controller) (r : After) (i : ℕ) → ((m : List ℕ) → Carries (applyFrame n) c m r m) → i ≡ numberOf (r .answer)
+    → (m : List ℕ) → Moves (recordOf (Frame n)) c m (record { ctl = r .ctl; event = Framed n i }) m
 unfolding recordOf
-frame-goes n c r i x at y j f e p m k t u l =
+frame-tells n c r i f e m k t u l =
     let h = f m k t u l in
     record {
+      event = ap (λ (z : ℕ). Framed n z ∷ []) (sym (e ∙ ap numberOf (h .answer)));
       ctl = h .ctl;
       mem = h .mem;
       kinds = h .kinds;
       state = h .state;
       used = h .used;
       lens = h .lens;
-      text = one-line (framed n _) (subst (λ (z : ℕ). Prints x at (lineOf (framed n z)) y j) (e ∙ ap numberOf (h .answer)) p);
     }
 
-pub step-goes : (e : Engine) (c : Controller) (m : List ℕ) (r : After) (m1 x : List ℕ) (at : ℕ) (y : List ℕ) (j : ℕ) → Moves (applyStep e) c m r m1
-    → Prints x at (lineOf (moved (r .burst))) y j → Goes (stepsOf e 1) c m (record { ctl = r .ctl; end = j }) m1 x at y
-step-goes e c m r m1 x at y j f p k t u l =
+pub step-tells : (e : Engine) (c : Controller) (m : List ℕ) (r : After) (m1 : List ℕ) → Carries (applyStep e) c m r m1
+    → Moves (stepsOf e 1) c m (record { ctl = r .ctl; event = Moved (r .burst) }) m1
+step-tells e c m r m1 f k t u l =
     let h = f k t u l in
     record {
+      event = ap (λ (z : Burst). Moved z ∷ []) (sym (h .burst));
       ctl = h .ctl;
       mem = h .mem;
       kinds = h .kinds;
       state = h .state;
       used = h .used;
       lens = h .lens;
-      text = one-line (moved _) (subst (λ (z : Burst). Prints x at (lineOf (moved z)) y j) (h .burst) p);
     }
+
+-- ---- what happened, and its line
+pub tells-plays : (p : List Event × Machine) (h : Happening) (m k t u l : List ℕ) (r : Played) (x : List ℕ) (at : ℕ) (y : List ℕ)
+    → Tells p h m k t u l → Shows h r x at y → Plays p r m k t u l x at y
+tells-plays p h m k t u l r x at y f s = record {
+  ctl = s .ctl ∙ f .ctl;
+  mem = f .mem;
+  kinds = f .kinds;
+  state = f .state;
+  used = f .used;
+  lens = f .lens;
+  text = subst (λ (es : List Event). Prints x at (linesOf es) y (r .end)) (sym (f .event)) (one-line (h .event) (s .text));
+}
 
 -- ---- steps one after another
 pub goes-none : (e : Engine) (n : ℕ) → n ≡ 0 → (c : Controller) (m x : List ℕ) (at : ℕ) → Goes (stepsOf e n) c m (record { ctl = c; end = at }) m x at x
@@ -120,7 +137,7 @@ steps-more : (e : Engine) (k : ℕ) (s : Machine)
 steps-more e zero s = refl
 steps-more e (suc k) s =
     let x = apply (step e) s in
-    ap (λ (v : List Event × Machine). (moved (x .burst) ∷ v .0, v .1)) (steps-more e k (x .machine))
+    ap (λ (v : List Event × Machine). (Moved (x .burst) ∷ v .0, v .1)) (steps-more e k (x .machine))
 
 module _ (p : List Event × Machine) (r : Played) (m k t u l x : List ℕ) (at : ℕ) (y : List ℕ) (g : Plays p r m k t u l x at y) where
   machine-is : machineAt (r .ctl) m k t u l ≡ p .1

@@ -14,8 +14,10 @@ use Rattle.records.specs.declared.Record.{Record}
 use Rattle.records.specs.declared.Record.the-variants.{Ram, Write, Kind, Frame, Steps}
 use Rattle.records.specs.declared.Decoded.{Decoded}
 use Rattle.records.specs.declared.Decoded.the-variants.{End, Good, Bad}
+use Rattle.records.specs.declared.Event.{Event}
+use Rattle.records.specs.declared.Event.the-variants.{Wrote, Changed, Framed, Moved}
 use Rattle.records.specs.Records.{decode}
-use Rattle.records.specs.Lines.{Event, wrote, changed, framed, moved, linesOf, sentLine, badLine}
+use Rattle.records.specs.Lines.{linesOf, sentLine, badLine}
 
 abbrev pub Played : Type 0
 Played = List Event × Machine
@@ -26,14 +28,14 @@ stepsOf e zero s = ([], s)
 stepsOf e (suc c) s =
     let x = apply (step e) s in
     let t = stepsOf e c (x .machine) in
-    (moved (x .burst) ∷ t .0, t .1)
+    (Moved (x .burst) ∷ t .0, t .1)
 
 -- a `Ram` record is the first of its file, and begins a run; within one it changes nothing
 unfoldable pub recordOf : Record → Machine → Played
 recordOf (Ram n) s = ([], s)
-recordOf (Write a v) s = let x = apply (write a v) s in (wrote a (numberOf (x .answer)) ∷ [], x .machine)
-recordOf (Kind b k) s = let x = apply (kind b k) s in (changed b (numberOf (x .answer)) ∷ [], x .machine)
-recordOf (Frame n) s = let x = apply (frame n) s in (framed n (numberOf (x .answer)) ∷ [], x .machine)
+recordOf (Write a v) s = let x = apply (write a v) s in (Wrote a (numberOf (x .answer)) ∷ [], x .machine)
+recordOf (Kind b k) s = let x = apply (kind b k) s in (Changed b (numberOf (x .answer)) ∷ [], x .machine)
+recordOf (Frame n) s = let x = apply (frame n) s in (Framed n (numberOf (x .answer)) ∷ [], x .machine)
 recordOf (Steps e c) s = stepsOf e c s
 
 -- what is printed from offset o on, where a record was decoded; rest prints what follows it

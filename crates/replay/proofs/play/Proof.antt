@@ -1,6 +1,6 @@
--- `replay::play` meets its contract: each record by its own function. Assumes nothing.
+-- `replay::play` meets its contract: each record by its own function, and its line. Assumes nothing.
+use Rattle.replay.proofs.PlayLaws.{ram-plays, record-plays, steps-goes, tells-plays}
 use native.Mathlib.Omega.{arith}
-use Rattle.replay.proofs.PlayLaws.{ram-plays, record-plays, steps-goes}
 use borrow.Author.Needs.{needs}
 use Rattle.replay.proofs.play.Statement.{statement}
 use Rattle.replay.proofs.play.Tie as tie
@@ -11,20 +11,29 @@ enum-told c = search needs
 enum-known-r : tie.Need-enum-known-r
 enum-known-r c = search needs
 
-play-write-requires : tie.Need-play-write-requires
-play-write-requires c κs = search needs
+happen-write-requires : tie.Need-happen-write-requires
+happen-write-requires c κs = search needs
+
+show-requires : tie.Need-show-requires
+show-requires c κs = search needs
 
 enum-known-r-2 : tie.Need-enum-known-r-2
 enum-known-r-2 c = search needs
 
-play-kind-requires : tie.Need-play-kind-requires
-play-kind-requires c κs = search needs
+happen-kind-requires : tie.Need-happen-kind-requires
+happen-kind-requires c κs = search needs
+
+show-requires-2 : tie.Need-show-requires-2
+show-requires-2 c κs = search needs
 
 enum-known-r-3 : tie.Need-enum-known-r-3
 enum-known-r-3 c = search needs
 
-play-frame-requires : tie.Need-play-frame-requires
-play-frame-requires c κs = search needs
+happen-frame-requires : tie.Need-happen-frame-requires
+happen-frame-requires c κs = search needs
+
+show-requires-3 : tie.Need-show-requires-3
+show-requires-3 c κs = search needs
 
 enum-known-r-4 : tie.Need-enum-known-r-4
 enum-known-r-4 c = search needs
@@ -45,7 +54,7 @@ same-length-3 : tie.Need-same-length-3
 same-length-3 c = search needs
 
 returns-2 : tie.Need-returns-2
-returns-2 c = (omega (arith, c .before .before .before .before .play-write .ensures .0), record-plays _ _ (c .before .before .before .before .before .before .before .before .before .before .before .before .r .given .1) _ _ _ _ _ _ _ _ _ _ (c .before .before .before .before .play-write .ensures .1))
+returns-2 c = (omega (arith, c .before .before .show .ensures .0), record-plays _ _ (c .before .before .before .before .before .before .before .before .before .before .before .before .before .r .given .1) _ _ _ _ _ _ _ _ _ _ (tells-plays _ _ _ _ _ _ _ _ _ _ _ (c .before .before .before .before .before .before .happen-write .ensures) (c .before .before .show .ensures .1)))
 
 same-length-4 : tie.Need-same-length-4
 same-length-4 c = search needs
@@ -57,13 +66,13 @@ same-length-6 : tie.Need-same-length-6
 same-length-6 c = search needs
 
 returns-3 : tie.Need-returns-3
-returns-3 c = (omega (arith, c .before .before .before .before .play-kind .ensures .0), record-plays _ _ (c .before .before .before .before .before .before .before .before .before .before .before .before .r2 .given .1) _ _ _ _ _ _ _ _ _ _ (c .before .before .before .before .play-kind .ensures .1))
+returns-3 c = (omega (arith, c .before .before .show2 .ensures .0), record-plays _ _ (c .before .before .before .before .before .before .before .before .before .before .before .before .before .r2 .given .1) _ _ _ _ _ _ _ _ _ _ (tells-plays _ _ _ _ _ _ _ _ _ _ _ (c .before .before .before .before .before .before .happen-kind .ensures) (c .before .before .show2 .ensures .1)))
 
 same-length-7 : tie.Need-same-length-7
 same-length-7 c = search needs
 
 returns-4 : tie.Need-returns-4
-returns-4 c = (omega (arith, c .before .before .play-frame .ensures .0), record-plays _ _ (c .before .before .before .before .before .r3 .given .1) _ _ _ _ _ _ _ _ _ _ (c .before .before .play-frame .ensures .1 _ _ _ _ _))
+returns-4 c = (omega (arith, c .before .before .show3 .ensures .0), record-plays _ _ (c .before .before .before .before .before .before .r3 .given .1) _ _ _ _ _ _ _ _ _ _ (tells-plays _ _ _ _ _ _ _ _ _ _ _ (c .before .before .before .before .happen-frame .ensures _ _ _ _ _) (c .before .before .show3 .ensures .1)))
 
 same-length-8 : tie.Need-same-length-8
 same-length-8 c = search needs
@@ -80,11 +89,14 @@ play-spec =
     (tie.spec
     enum-told
     enum-known-r
-    play-write-requires
+    happen-write-requires
+    show-requires
     enum-known-r-2
-    play-kind-requires
+    happen-kind-requires
+    show-requires-2
     enum-known-r-3
-    play-frame-requires
+    happen-frame-requires
+    show-requires-3
     enum-known-r-4
     play-steps-requires
     returns

@@ -1,0 +1,4 @@
+pub mod ReplayLaws
+pub mod StandLaws
+pub mod FirstLaws
+pub mod Settled

@@ -1,0 +1,21 @@
+-- `player::finish_bad`: the line stands behind those gathered. Assumes nothing.
+use Rattle.player.proofs.StandLaws.{line-room, line-ends}
+use Rattle.records.proofs.LineLaws.{length-badLine}
+use borrow.Author.Needs.{needs}
+use Rattle.player.proofs.finish_bad.Statement.{statement}
+use Rattle.player.proofs.finish_bad.Tie as tie
+
+put-bad-requires : tie.Need-put-bad-requires
+put-bad-requires c κs = search needs
+
+emit-requires : tie.Need-emit-requires
+emit-requires c κs = line-room (c .before .before .before .put-bad .ensures) (length-badLine _) (c .before .before .before .before .before .before .pre)
+
+same-length : tie.Need-same-length
+same-length c = search needs
+
+returns : tie.Need-returns
+returns c = line-ends (c .before .before .before .before .put-bad .ensures) (length-badLine _) (c .before .before .before .before .before .before .before .pre)
+
+pub finish-bad-spec : {M : Type 1} → statement M
+finish-bad-spec = tie.close (tie.spec put-bad-requires emit-requires same-length returns)

@@ -1,0 +1,73 @@
+-- `player::replay_file` meets its contract: a fresh machine, and the first bytes read. Assumes nothing.
+use Rattle.player.proofs.StandLaws.{le-of}
+use mathlib.Core.Path.{sym}
+use borrow.Author.Needs.{needs}
+use Rattle.player.proofs.replay_file.Statement.{statement}
+use Rattle.player.proofs.replay_file.Tie as tie
+
+descriptors-requires : tie.Need-descriptors-requires
+descriptors-requires c κs = search needs
+
+kinds-table-requires : tie.Need-kinds-table-requires
+kinds-table-requires c κs = search needs
+
+no-state-requires : tie.Need-no-state-requires
+no-state-requires c κs = search needs
+
+no-words-requires : tie.Need-no-words-requires
+no-words-requires c κs = search needs
+
+no-lengths-requires : tie.Need-no-lengths-requires
+no-lengths-requires c κs = search needs
+
+refill-requires : tie.Need-refill-requires
+refill-requires c κs = search needs
+
+slice-aggregate-play-input : tie.Need-slice-aggregate-play-input
+slice-aggregate-play-input c = search needs
+
+slice-aggregate-play-input-2 : tie.Need-slice-aggregate-play-input-2
+slice-aggregate-play-input-2 c = search needs
+
+play-input-requires : tie.Need-play-input-requires
+play-input-requires c κs =
+    let p = c .before .before .before .before .before .before .before .before .before .before .before .before .before .before .before .before .before .before .pre in
+    let g = c .before .before .before .before .before .before .before .before .before .refill .ensures in (
+      le-of (p .0) (c .before .before .before .before .before .before .before .before .before .refill .kept .1 .0),
+      p .1,
+      sym (c .before .before .before .before .before .before .before .before .before .before .before .before .before .before .kinds-table .ensures),
+      g .inside,
+      g .enough,
+      record {
+        mem = c .before .before .before .before .before .before .before .before .before .before .before .before .before .before .before .descriptors .ensures;
+        state = c .before .before .before .before .before .before .before .before .before .before .before .before .before .no-state .ensures;
+        used = c .before .before .before .before .before .before .before .before .before .before .before .before .no-words .ensures;
+        lens = c .before .before .before .before .before .before .before .before .before .before .before .no-lengths .ensures;
+      },
+    )
+
+same-length : tie.Need-same-length
+same-length c = search needs
+
+same-length-2 : tie.Need-same-length-2
+same-length-2 c = search needs
+
+returns : tie.Need-returns
+returns c = search needs
+
+pub replay-file-spec : {M : Type 1} → statement M
+replay-file-spec =
+    tie.close
+    (tie.spec
+    descriptors-requires
+    kinds-table-requires
+    no-state-requires
+    no-words-requires
+    no-lengths-requires
+    refill-requires
+    slice-aggregate-play-input
+    slice-aggregate-play-input-2
+    play-input-requires
+    same-length
+    same-length-2
+    returns)
