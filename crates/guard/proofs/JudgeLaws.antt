@@ -13,7 +13,7 @@ use lib.ListN.{length, getD, take, drop}
 use lib.Dec.{eqb}
 use borrow.Author.Tests.{eq-eqb, ne-eqb, eqb-true, eqb-false}
 use Rattle.layout.specs.Choice.{pick}
-use Rattle.layout.specs.Layout.{addressEnd, goodPtr, wordOf, addr, placeOf, descWords}
+use Rattle.layout.specs.Layout.{addressEnd, goodPtr, wordOf, addr, descriptorWord, descWords}
 use Rattle.layout.proofs.ChoiceLaws.{clash}
 use Rattle.layout.proofs.PointerLaws.{goodPtr-is, goodPtr-zero, wordOf-addr, place-good, place-fits, place-past}
 use Rattle.guard.specs.declared.Tail.{Tail}
@@ -44,7 +44,7 @@ go-on w (suc n) k p q e f g =
     pick-yes false x y r = let z : _≡_ {A = ℕ} 0 1 = cc in absurd (omega arith)
 
 -- the next of the descriptor at word i is x, whose place is j
-module _ (w : ℕ → ℕ) (n i : ℕ) {x j : ℕ} (e : x ≡ w i) (f : j ≡ placeOf x) where
+module _ (w : ℕ → ℕ) (n i : ℕ) {x j : ℕ} (e : x ≡ w i) (f : j ≡ descriptorWord x) where
   next-is : x ≡ w (wordOf (addr i))
   next-is = e ∙ ap w (sym (wordOf-addr i))
 
@@ -58,11 +58,11 @@ module _ (w : ℕ → ℕ) (n i : ℕ) {x j : ℕ} (e : x ≡ w i) (f : j ≡ pl
       go-on w n k (addr i) (addr j) s (sym a ∙ next-is) (rw (← a) g)
 
 -- a head whose place is i, and the last descriptor's word r
-pub last-no : (w : ℕ → ℕ) (head k : ℕ) {i : ℕ} → i ≡ placeOf head → 2044 < i → false ≡ isLast w head k
+pub last-no : (w : ℕ → ℕ) (head k : ℕ) {i : ℕ} → i ≡ descriptorWord head → 2044 < i → false ≡ isLast w head k
 unfolding isLast
 last-no w head k f l = rw (place-past head (rw (← f) l)) refl
 
-pub last-test : (w : ℕ → ℕ) (head k r : ℕ) {i : ℕ} → head < addressEnd → i ≡ placeOf head → i ≤ 2044 → addr r ≡ lastOf w (addr i) → eqb r k ≡ isLast w head k
+pub last-test : (w : ℕ → ℕ) (head k r : ℕ) {i : ℕ} → head < addressEnd → i ≡ descriptorWord head → i ≤ 2044 → addr r ≡ lastOf w (addr i) → eqb r k ≡ isLast w head k
 unfolding isLast
 last-test w head k r {i} h f l e =
     let g = place-fits head h (rw (← f) l) in

@@ -20,7 +20,7 @@ use layout::DESC_BYTES;
 use layout::DESC_FIRST;
 use layout::DESC_WORDS;
 use layout::HDP;
-use layout::LAST_PLACE;
+use layout::LAST_DESCRIPTOR;
 use layout::Lengths;
 use layout::MISALIGNED;
 use layout::NOT_GUARDED;
@@ -38,7 +38,7 @@ use layout::WORD_IN_USE;
 use layout::Words;
 use layout::class_at;
 use layout::is_descriptor;
-use layout::place_of;
+use layout::descriptor_word;
 use layout::side_of;
 use registers::HDP_AT;
 use registers::State;
@@ -322,8 +322,8 @@ fn last_from(m: &[u8], i: usize) -> usize
     let mut at = i;
     let mut n: usize = DESC_WORDS;
     while 0 < n {
-        let next = place_of(word_of(m, at));
-        if LAST_PLACE < next {
+        let next = descriptor_word(word_of(m, at));
+        if LAST_DESCRIPTOR < next {
             return at;
         }
         at = next;
@@ -337,8 +337,8 @@ fn is_last(m: &[u8], head: u32, k: usize) -> bool
     requires { ⌜ (length (now m) ≡ descBytes) × (k < descWords) ⌝ }
     ensures { λ r. ⌜ r ≡ isLast (word (now (m .entry))) head k ⌝ }
 {
-    let i = place_of(head);
-    if LAST_PLACE < i {
+    let i = descriptor_word(head);
+    if LAST_DESCRIPTOR < i {
         return false;
     }
     last_from(m, i) == k

@@ -22,7 +22,7 @@ use Rattle.records.specs.Lines.{linesOf, sentLine, badLine}
 use Rattle.records.proofs.SizeLaws.{decode-sized, decode-append}
 use Rattle.replay.specs.Replay.{recordOf, replayAt, replayFor, replay}
 use Rattle.player.specs.Stands.{replayFrom, MayCome, Enough, toCome, Lines}
-use Rattle.player.specs.Turns.{gatheredMax, keptAt, written}
+use Rattle.player.specs.Turns.{gatheredMax, keptAt, flushed}
 
 -- ---- how many records may be counted
 
@@ -109,5 +109,5 @@ flush-at true wrote rest y at = ap (λ (l : List ℕ). l ++ (take at y ++ rest))
 flush-at false wrote rest y at = sym (append-assoc wrote (take at y) rest)
 
 pub lines-flush : (read wrote y : List ℕ) (at o : ℕ) (s : Machine) (w : List ℕ) (ended : Bool) → Lines read wrote (take at y) true o s w ended
-    → Lines read (wrote ++ written at y) (take (keptAt at) y) true o s w ended
+    → Lines read (wrote ++ flushed at y) (take (keptAt at) y) true o s w ended
 lines-flush read wrote y at o s w ended f more m = f more m ∙ flush-at (leb at gatheredMax) wrote (replayFrom o s (w ++ more)) y at

@@ -13,7 +13,7 @@ use Rattle.window.specs.Window.{windowOf}
 use Rattle.player.specs.declared.Run.{Run}
 use Rattle.player.specs.declared.Last.{Last}
 use Rattle.player.specs.Stands.{MayCome, toCome, Stands, offsetEnd}
-use Rattle.player.specs.Turns.{written, Turned, Printed}
+use Rattle.player.specs.Turns.{flushed, Turned, Printed}
 
 -- what a run has printed and will print, where `more` is read yet
 abbrev linesAt : List ℕ → Run → List ℕ → List ℕ → List ℕ → List ℕ → List ℕ → List ℕ → List ℕ → List ℕ → List ℕ
@@ -24,7 +24,7 @@ pub turned-unique : (s : Run) (m k t u l x y : List ℕ) (r : Run) (m1 k1 t1 u1 
     (a : Turned s m k t u l x y r m1 k1 t1 u1 l1 x1 y1) (b : Turned s m k t u l x y q m2 k2 t2 u2 l2 x2 y2) → a .filled .got ≡ b .filled .got
     → (read wrote : List ℕ) → length (read ++ a .filled .got) < offsetEnd → Stands read wrote s m k t u l x y
     → (more : List ℕ) → MayCome (r .window .ended) more → MayCome (q .window .ended) more
-    → linesAt (wrote ++ written (s .at) y) r m1 k1 t1 u1 l1 x1 y1 more ≡ linesAt (wrote ++ written (s .at) y) q m2 k2 t2 u2 l2 x2 y2 more
+    → linesAt (wrote ++ flushed (s .at) y) r m1 k1 t1 u1 l1 x1 y1 more ≡ linesAt (wrote ++ flushed (s .at) y) q m2 k2 t2 u2 l2 x2 y2 more
 turned-unique s m k t u l x y r m1 k1 t1 u1 l1 x1 y1 q m2 k2 t2 u2 l2 x2 y2 a b e read wrote n f more p v =
     let n2 = subst (λ (g : List ℕ). length (read ++ g) < offsetEnd) e n in
     sym (a .stands read wrote n f .0 .lines more p)

@@ -33,7 +33,7 @@ use Rattle.window.specs.Window.{windowOf, Inside, Refilled, Passed}
 use Rattle.window.proofs.WindowLaws.{window-part, length-window, window-pass}
 use Rattle.player.specs.declared.Run.{Run}
 use Rattle.player.specs.Stands.{Enough, Lines, Stands, Holds, offsetEnd, runAt}
-use Rattle.player.specs.Turns.{gatheredMax, roomMin, keptAt, written, sizeOf, Ends, Went, Acted, Turned, Reached}
+use Rattle.player.specs.Turns.{gatheredMax, roomMin, keptAt, flushed, sizeOf, Ends, Went, Acted, Turned, Reached}
 use Rattle.player.proofs.ReplayLaws.{lines-refill, lines-flush, lines-end, lines-bad, lines-good}
 
 pub line-room : {x y : List ℕ} {i j : ℕ} {l : List ℕ} → Prints x i l y j → length l ≤ lineMax → i + lineMax ≤ length x → j ≤ length y
@@ -156,7 +156,7 @@ kept-few a r e = subst (λ (z : ℕ). z ≤ gatheredMax) (sym e) (kept-few-at (l
 
 module _ (s : Run) (m k t u l x y : List ℕ) (w : Window) (x′ : List ℕ) (g : Refilled recordMax (s .window) x w x′) (going : s .going ≡ true) where
   turn-middle : (at : ℕ) → at ≡ keptAt (s .at) → (read wrote : List ℕ) → Stands read wrote s m k t u l x y
-      → Stands (read ++ g .got) (wrote ++ written (s .at) y) (runAt (s .ctl) at w (s .offset) true) m k t u l x′ y
+      → Stands (read ++ g .got) (wrote ++ flushed (s .at) y) (runAt (s .ctl) at w (s .offset) true) m k t u l x′ y
   turn-middle at e read wrote f =
       let o = s .offset in
       let b = machineAt (s .ctl) m k t u l in
@@ -165,7 +165,7 @@ module _ (s : Run) (m k t u l x y : List ℕ) (w : Window) (x′ : List ℕ) (g 
       let k1 = subst (λ (z : Bool). Lines read wrote (take (s .at) y) z o b v (s .window .ended)) going (f .lines) in
       let k2 = lines-refill read wrote (take (s .at) y) o b v (s .window .ended) (w .ended) (g .got) (g .stays) k1 in
       let k3 = lines-flush all wrote y (s .at) o b (v ++ g .got) (w .ended) k2 in
-      let k4 = subst (λ (z : List ℕ). Lines all (wrote ++ written (s .at) y) (take (keptAt (s .at)) y) true o b z (w .ended)) (sym (g .bytes)) k3 in
+      let k4 = subst (λ (z : List ℕ). Lines all (wrote ++ flushed (s .at) y) (take (keptAt (s .at)) y) true o b z (w .ended)) (sym (g .bytes)) k3 in
       let long : o + (length v + length (g .got)) ≡ length read + length (g .got) = omega (arith, f .place) in
       record {
         place =
@@ -173,7 +173,7 @@ module _ (s : Run) (m k t u l x y : List ℕ) (w : Window) (x′ : List ℕ) (g 
             ∙ ap (λ (z : ℕ). o + z) (length-append v (g .got))
             ∙ long
             ∙ sym (length-append read (g .got));
-        lines = subst (λ (z : ℕ). Lines all (wrote ++ written (s .at) y) (take z y) true o b (windowOf w x′) (w .ended)) (sym e) k4;
+        lines = subst (λ (z : ℕ). Lines all (wrote ++ flushed (s .at) y) (take z y) true o b (windowOf w x′) (w .ended)) (sym e) k4;
       }
 
   pub turned : (at : ℕ) (d : Decoded) (r : Run) (m′ k′ t′ u′ l′ y′ : List ℕ) → at ≡ keptAt (s .at) → d ≡ decode false (windowOf w x′)
@@ -184,7 +184,7 @@ module _ (s : Run) (m k t u l x y : List ℕ) (w : Window) (x′ : List ℕ) (g 
     ended = a .ended;
     holds = record { inside = a .inside x′ (g .inside); room = a .room };
     stands = λ read wrote n f.
-        a .stands (read ++ g .got) (wrote ++ written (s .at) y) x′ n (g .inside) q (g .enough) (turn-middle at e read wrote f);
+        a .stands (read ++ g .got) (wrote ++ flushed (s .at) y) x′ n (g .inside) q (g .enough) (turn-middle at e read wrote f);
   }
 
 -- ---- turns one after another
@@ -215,7 +215,7 @@ module _ (s : Run) (m k t u l x y : List ℕ) where
     reached-more left q m2 k2 t2 u2 l2 x2 y2 going some is b =
         let g1 = a .got in
         let g2 = b .filled .got in
-        let p2 = written (r .at) y1 in
+        let p2 = flushed (r .at) y1 in
         record {
           got = g1 ++ g2;
           put = a .put ++ p2;

@@ -1,6 +1,6 @@
 -- What the parts of a run do. Document 01, "The bench".
 --     gatheredMax, roomMin     the most bytes of lines that are kept before a record, and the room that the lines need in all
---     keptAt at, written at y  how many bytes of lines are kept, and those that are handed to the write first
+--     keptAt at, flushed at y  how many bytes of lines are kept, and those that are handed to the write first
 --     sizeOf d                 how many bytes were decoded
 --     kindsOf r, kindsIn d     N of a first record, and 0 where there is none
 --     Ends y at l y′ e         the line l stands behind those gathered
@@ -44,8 +44,8 @@ roomMin = gatheredMax + lineMax * 256
 abbrev pub keptAt : ℕ → ℕ
 keptAt at = pick (leb at gatheredMax) at 0
 
-abbrev pub written : ℕ → List ℕ → List ℕ
-written at y = pick (leb at gatheredMax) [] (take at y)
+abbrev pub flushed : ℕ → List ℕ → List ℕ
+flushed at y = pick (leb at gatheredMax) [] (take at y)
 
 abbrev pub sizeOf : Decoded → ℕ
 sizeOf End = 0
@@ -104,7 +104,7 @@ pub record Turned (s : Run) (m k t u l x y : List ℕ) (r : Run) (m′ k′ t′
   pub ended : r .window .ended ≡ window .ended
   pub holds : Holds r x′ y′
   pub stands : (read wrote : List ℕ) → length (read ++ filled .got) < offsetEnd → Stands read wrote s m k t u l x y
-      → Stands (read ++ filled .got) (wrote ++ written (s .at) y) r m′ k′ t′ u′ l′ x′ y′ × (r .going ≡ true → s .offset < r .offset)
+      → Stands (read ++ filled .got) (wrote ++ flushed (s .at) y) r m′ k′ t′ u′ l′ x′ y′ × (r .going ≡ true → s .offset < r .offset)
 
 -- after some turns that read `got` and handed `put` to the write, with so many turns left
 pub record Reached (turns : ℕ) (s : Run) (m k t u l x y : List ℕ) (r : Run) (m′ k′ t′ u′ l′ x′ y′ : List ℕ) : Type 0 where

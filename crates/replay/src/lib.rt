@@ -23,7 +23,7 @@ ghost use Rattle.machine.specs.After.{machineAt};
 ghost use Rattle.records.specs.declared.Record.the-variants.{Write, Kind, Frame};
 ghost use Rattle.records.specs.Lines.{lineMax, sentLine, Prints};
 ghost use Rattle.replay.specs.Replay.{stepsOf, recordOf};
-ghost use Rattle.replay.specs.Plays.{Tells, Moves, Shows, Plays, Goes};
+ghost use Rattle.replay.specs.Plays.{Tells, MovesOn, Shows, Plays, Goes};
 
 // What happened in one operation, and the controller afterwards.
 pub struct Happening {
@@ -81,7 +81,7 @@ fn happen_kind(
 
 // A frame.
 fn happen_frame(n: u16, c: Controller) -> Happening
-    ensures { λ h. ⌜ ((m : List ℕ) → Moves (recordOf (Frame n)) c m h m) ⌝ }
+    ensures { λ h. ⌜ ((m : List ℕ) → MovesOn (recordOf (Frame n)) c m h m) ⌝ }
 {
     let x = apply_frame(n as u32, c);
     let answer = x.answer;
@@ -92,7 +92,7 @@ fn happen_frame(n: u16, c: Controller) -> Happening
 
 // One step.
 fn happen_step(e: Engine, c: Controller, m: &mut [u8]) -> Happening
-    ensures { λ h. ⌜ Moves (stepsOf e 1) c (now (m .entry)) h (now (m .exit)) ⌝ }
+    ensures { λ h. ⌜ MovesOn (stepsOf e 1) c (now (m .entry)) h (now (m .exit)) ⌝ }
 {
     let x = apply_step(e, c, m);
     let ctl = x.ctl;

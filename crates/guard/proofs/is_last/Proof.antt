@@ -5,17 +5,17 @@ use Rattle.guard.proofs.JudgeLaws.{last-no, last-test}
 use Rattle.guard.proofs.is_last.Statement.{statement}
 use Rattle.guard.proofs.is_last.Tie as tie
 
-place-of-requires : tie.Need-place-of-requires
-place-of-requires c κs = search needs
+descriptor-word-requires : tie.Need-place-of-requires
+descriptor-word-requires c κs = search needs
 
 returns : tie.Need-returns
-returns c = last-no _ _ _ (c .before .place-of .ensures) (c .if1 .taken)
+returns c = last-no _ _ _ (c .before .descriptor-word .ensures) (c .if1 .taken)
 
 last-from-requires : tie.Need-last-from-requires
 last-from-requires c κs = search needs
 
 returns-2 : tie.Need-returns-2
-returns-2 c = last-test _ _ _ _ (omega arith) (c .before .before .place-of .ensures) (c .before .if1 .left) (c .last-from .ensures)
+returns-2 c = last-test _ _ _ _ (omega arith) (c .before .before .descriptor-word .ensures) (c .before .if1 .left) (c .last-from .ensures)
 
 pub is-last-spec : {M : Type 1} → statement M
-is-last-spec = tie.close (tie.spec place-of-requires returns last-from-requires returns-2)
+is-last-spec = tie.close (tie.spec descriptor-word-requires returns last-from-requires returns-2)
