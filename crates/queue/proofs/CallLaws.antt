@@ -42,7 +42,6 @@ use Rattle.guard.specs.Answers.{Outcome, refuse, worldAt, Gives}
 use Rattle.guard.specs.Judges.{judgeChain, started, judgeHead, judgeRegister, isLast, tailIn, judgeAppend, atTail, judgeLast, judgeWord, judgeClass, judge}
 use Rattle.guard.specs.Guard.{admitted, guestWrite}
 use Rattle.kinds.specs.Kinds.{kindNumber, judgeKind, kindChange}
-use Rattle.kinds.proofs.KindLaws.{kind-tests}
 use Rattle.queue.specs.Calls.{FitSound, LeavesSound, Call, write, kind, read, called, calledAll}
 use Rattle.queue.proofs.SoleLaws.{sole-empty}
 use Rattle.queue.proofs.RecordLaws.{recorded-empty}
@@ -283,15 +282,24 @@ module _ (s : World) (h : Held s) where
       (λ e. h)
 
 -- a new kind is at most 4: "19 new kind not 1..4"
+kind-bound : (b k : ℕ) (w : ℕ → ℕ) (lens kinds : List ℕ) → kindNumber b k w lens kinds ≡ 0 → k ≤ 4
+unfolding kindNumber
+kind-bound b k w lens kinds e = leb-true k 4 (at (ltb b (length kinds)) (leb 1 k) (leb k 4) _ e)
+  where
+    at : (t1 t2 t3 : Bool) (x : ℕ) → pick t1 (pick (both t2 t3) x 19) 18 ≡ 0 → t3 ≡ true
+    at t1 t2 true x z = refl
+    at true true false x z = absurd (omega arith)
+    at true false false x z = absurd (omega arith)
+    at false t2 false x z = absurd (omega arith)
+
 pub judge-kind-held : (b k : ℕ) (s : World) → Held s → Held (judgeKind b k s .world)
 unfolding judgeKind
 judge-kind-held b k s h =
     let n = kindNumber b k (word (s .mem)) (s .lens) (s .kinds) in
-    let small : n ≡ 0 → leb k 4 ≡ true = λ z. kind-tests b k (word (s .mem)) (s .lens) (s .kinds) z .2 in
     by-pick Leaves (eqb n 0) _ _
     (λ e. record {
       size = h .size;
-      kinds = set-keeps-fitKinds (s .kinds) b k (leb-true k 4 (small (eqb-true n 0 e))) (h .kinds);
+      kinds = set-keeps-fitKinds (s .kinds) b k (kind-bound b k (word (s .mem)) (s .lens) (s .kinds) (eqb-true n 0 e)) (h .kinds);
       state = h .state;
       flags = h .flags;
       booked = h .booked;
