@@ -29,6 +29,7 @@ ROWS = {
         "the starred cases and the bench's example",
         [("cases", "Starred", "Starred"), ("cases", "Example", "exampleIn"), ("cases", "Example", "exampleOut")],
     ),
+    "the bench": ("all that it hands to the write is `replay` of all that it read", [("player", "replay_file")]),
     "beliefs": (
         "four false beliefs",
         [("beliefs", "Beliefs", n) for n in ("EmptyQueue", "LengthNow", "LateAppend", "OldCode")],

@@ -77,7 +77,9 @@ pub extern "C" fn gresomund_guest_write(
     used: &mut Words,
     lens: &mut Lengths,
 ) -> u32
-    ensures { λ r. ⌜ Crosses (guestWrite address value (worldAt (now (mem .entry)) (now (kinds .entry)) (now (state .entry)) (now (used .entry)) (now (lens .entry)))) r
+    ensures { λ r. ⌜ Crosses
+        (guestWrite address value
+        (worldAt (now (mem .entry)) (now (kinds .entry)) (now (state .entry)) (now (used .entry)) (now (lens .entry)))) r
         (now (mem .exit)) (now (kinds .entry)) (now (state .exit)) (now (used .exit)) (now (lens .exit)) ⌝ }
 {
     pack(guest_write(address, value, mem, kinds, state, used, lens))
@@ -96,7 +98,9 @@ pub extern "C" fn gresomund_guest_write_sound(
 ) -> u32
     requires { ⌜ (unfit (worldAt (now mem) (now kinds) (now state) (now used) (now lens)) ≡ false)
         × (soundWorld (worldAt (now mem) (now kinds) (now state) (now used) (now lens)) ≡ true) ⌝ }
-    ensures { λ r. ⌜ Crosses (guestWrite address value (worldAt (now (mem .entry)) (now (kinds .entry)) (now (state .entry)) (now (used .entry)) (now (lens .entry)))) r
+    ensures { λ r. ⌜ Crosses
+        (guestWrite address value
+        (worldAt (now (mem .entry)) (now (kinds .entry)) (now (state .entry)) (now (used .entry)) (now (lens .entry)))) r
         (now (mem .exit)) (now (kinds .entry)) (now (state .exit)) (now (used .exit)) (now (lens .exit)) ⌝ }
 {
     pack(guest_write_sound(address, value, mem, kinds, state, used, lens))
@@ -113,7 +117,9 @@ pub extern "C" fn gresomund_kind_change(
     used: &mut Words,
     lens: &mut Lengths,
 ) -> u32
-    ensures { λ r. ⌜ Crosses (kindChange block kind (worldAt (now (mem .entry)) (now (kinds .entry)) (now (state .entry)) (now (used .entry)) (now (lens .entry)))) r
+    ensures { λ r. ⌜ Crosses
+        (kindChange block kind
+        (worldAt (now (mem .entry)) (now (kinds .entry)) (now (state .entry)) (now (used .entry)) (now (lens .entry)))) r
         (now (mem .entry)) (now (kinds .exit)) (now (state .exit)) (now (used .exit)) (now (lens .exit)) ⌝ }
 {
     pack(kind_change(block, kind, mem, kinds, state, used, lens))
@@ -132,7 +138,9 @@ pub extern "C" fn gresomund_kind_change_sound(
 ) -> u32
     requires { ⌜ (unfit (worldAt (now mem) (now kinds) (now state) (now used) (now lens)) ≡ false)
         × (soundWorld (worldAt (now mem) (now kinds) (now state) (now used) (now lens)) ≡ true) ⌝ }
-    ensures { λ r. ⌜ Crosses (kindChange block kind (worldAt (now (mem .entry)) (now (kinds .entry)) (now (state .entry)) (now (used .entry)) (now (lens .entry)))) r
+    ensures { λ r. ⌜ Crosses
+        (kindChange block kind
+        (worldAt (now (mem .entry)) (now (kinds .entry)) (now (state .entry)) (now (used .entry)) (now (lens .entry)))) r
         (now (mem .entry)) (now (kinds .exit)) (now (state .exit)) (now (used .exit)) (now (lens .exit)) ⌝ }
 {
     pack(kind_change_sound(block, kind, mem, kinds, state, used, lens))

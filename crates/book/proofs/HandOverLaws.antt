@@ -34,7 +34,8 @@ falls-at true true side x2 u d next y z t h e =
 falls-at true false side x2 u d next y z t h e = let n : _≡_ {A = ℕ} 0 1 = cc in absurd (omega arith)
 falls-at false b side x2 u d next y z t h e = let n : _≡_ {A = ℕ} 0 1 = cc in absurd (omega arith)
 
-pub handOverStep-falls : (w : ℕ → ℕ) (side : Side) (s t : Uses × ℕ) → handOverStep w side s ≡ go t → freeCount (t .0 .0) < freeCount (s .0 .0)
+pub handOverStep-falls : (w : ℕ → ℕ) (side : Side) (s t : Uses × ℕ) → handOverStep w side s ≡ go t
+    → freeCount (t .0 .0) < freeCount (s .0 .0)
 unfolding handOverStep
 handOverStep-falls w side s t e =
     falls-at

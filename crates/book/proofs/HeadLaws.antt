@@ -52,7 +52,8 @@ walk-nil : (w : ℕ → ℕ) (met : List ℕ) → walkAll w [] met ≡ (true, me
 unfolding walkAll
 walk-nil w met = refl
 
-walk-cons : (w : ℕ → ℕ) (h : ℕ) (hs met : List ℕ) {b : Bool} {v : List ℕ} → (b, v) ≡ walkFrom w met h → walkAll w (h ∷ hs) met ≡ so-far b (walkAll w hs v)
+walk-cons : (w : ℕ → ℕ) (h : ℕ) (hs met : List ℕ) {b : Bool} {v : List ℕ} → (b, v) ≡ walkFrom w met h
+    → walkAll w (h ∷ hs) met ≡ so-far b (walkAll w hs v)
 unfolding walkAll
 walk-cons w h hs met e = rw (← e) refl
 
@@ -144,11 +145,13 @@ unfolding releasedAll
 released-cons w mode h hs u e = rw (← e) refl
 
 -- from 0 nothing is released
-released-none : (w : ℕ → ℕ) (mode : Mode) (u : Uses) {x : ℕ} {v : Uses} → (x, v) ≡ releasedFrom w u 0 mode → releasedAll w mode [] v ≡ releasedAll w mode [] u
+released-none : (w : ℕ → ℕ) (mode : Mode) (u : Uses) {x : ℕ} {v : Uses} → (x, v) ≡ releasedFrom w u 0 mode
+    → releasedAll w mode [] v ≡ releasedAll w mode [] u
 released-none w mode u e = ap (λ (r : ROut). releasedAll w mode [] (r .1)) (e ∙ released-bad w u 0 mode goodPtr-zero)
 
 released-suc : (w : ℕ → ℕ) (mode : Mode) (hs : List ℕ) (u : Uses) (q : ℕ) {x : ℕ} {v : Uses} → (x, v) ≡ releasedFrom w u (getD hs q 0) mode
-    → behind (take (suc q) (set hs q x)) (releasedAll w mode (drop (suc q) (set hs q x)) v) ≡ behind (take q hs) (releasedAll w mode (drop q hs) u)
+    → behind (take (suc q) (set hs q x)) (releasedAll w mode (drop (suc q) (set hs q x)) v)
+    ≡ behind (take q hs) (releasedAll w mode (drop q hs) u)
 released-suc w mode [] u zero e = released-none w mode u e
 released-suc w mode [] u (suc q) e = released-none w mode u e
 released-suc w mode (h ∷ hs) u zero e = sym (released-cons w mode h hs u e)
@@ -171,12 +174,15 @@ releasing-next {w} {mode} {t₀} {u₀} {q} {t} {u} {x} {v} h e k = record {
   heads = rw (take-set-lt queues t q x h, add-one q) (released-suc w mode (headsOf t) u q (rw (getD-headsOf t q h) e) ∙ k .heads);
 }
 
-module _ {w : ℕ → ℕ} {mode : Mode} {t₀ : List ℕ} {u₀ : Uses} {q : ℕ} {t : List ℕ} {u : Uses} (h : queues ≤ q) (k : Releasing w mode t₀ u₀ q t u) where
+module _ {w : ℕ → ℕ} {mode : Mode} {t₀ : List ℕ} {u₀ : Uses} {q : ℕ} {t : List ℕ} {u : Uses} (h : queues ≤ q)
+    (k : Releasing w mode t₀ u₀ q t u) where
   releasing-done : (headsOf t, u) ≡ releasedAll w mode (headsOf t₀) u₀
   releasing-done =
       ap (λ (l : List ℕ). (l, u)) (sym (append-nil (headsOf t)))
-      ∙ sym (ap (λ (r : List ℕ × Uses). behind (headsOf t) r) (ap (λ (l : List ℕ). releasedAll w mode l u) (none-left q t h) ∙ released-nil w mode u))
-      ∙ sym (ap (λ (l : List ℕ). behind l (releasedAll w mode (drop q (headsOf t)) u)) (take-all q (headsOf t) (omega (arith, length-take queues t))))
+      ∙ sym (ap (λ (r : List ℕ × Uses). behind (headsOf t) r)
+      (ap (λ (l : List ℕ). releasedAll w mode l u) (none-left q t h) ∙ released-nil w mode u))
+      ∙ sym (ap (λ (l : List ℕ). behind l (releasedAll w mode (drop q (headsOf t)) u))
+      (take-all q (headsOf t) (omega (arith, length-take queues t))))
       ∙ k .heads
 
   pub releasing-last : (t, u) ≡ releasedHeads w mode t₀ u₀
@@ -201,7 +207,8 @@ pub record Settling (t : List ℕ) (q mask : ℕ) : Type 0 where
 pub settling-first : (t : List ℕ) → Settling t 0 (tearingsOf t)
 settling-first t = record { small = omega arith; rest = refl }
 
-pub settling-next : {t : List ℕ} {q mask m : ℕ} → q < queues → m ≡ pick (eqb (cpOf t q) teardownDone) (clearBit q mask) mask → Settling t q mask
+pub settling-next : {t : List ℕ} {q mask m : ℕ} → q < queues → m ≡ pick (eqb (cpOf t q) teardownDone) (clearBit q mask) mask
+    → Settling t q mask
     → Settling t (q + 1) m
 settling-next {t} {q} {mask} {m} h e k = record {
   small = omega arith;

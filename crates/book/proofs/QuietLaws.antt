@@ -83,13 +83,15 @@ heads-held w t u e =
 settled-none : (q : ℕ) (cs : List ℕ) → settled 0 q cs ≡ 0
 settled-none q [] = refl
 settled-none q (c ∷ cs) =
-    ap (λ (m : ℕ). settled m (q + 1) cs) (ap (λ (x : ℕ). pick (eqb c teardownDone) x 0) (clearBit-none q) ∙ pick-same (eqb c teardownDone) 0)
+    ap (λ (m : ℕ). settled m (q + 1) cs)
+    (ap (λ (x : ℕ). pick (eqb c teardownDone) x 0) (clearBit-none q) ∙ pick-same (eqb c teardownDone) 0)
     ∙ settled-none (q + 1) cs
 
 flags-kept : (t : List ℕ) → resetOf t ≡ false → anyTearing t ≡ false → t ≡ releasedFlags t
 flags-kept t r a =
     let z : tearingsOf t ≡ 0 = anyTearing-zero t a in
-    let e : tearingsOf t ≡ settled (tearingsOf t) 0 (cpsOf t) = z ∙ sym (ap (λ (m : ℕ). settled m 0 (cpsOf t)) z ∙ settled-none 0 (cpsOf t)) in
+    let e : tearingsOf t ≡ settled (tearingsOf t) 0 (cpsOf t) =
+    z ∙ sym (ap (λ (m : ℕ). settled m 0 (cpsOf t)) z ∙ settled-none 0 (cpsOf t)) in
     sym (set-getD t tearingAt 0) ∙ releasedFlags-else t (sym (simp r)) e refl
 
 -- ---- the whole world

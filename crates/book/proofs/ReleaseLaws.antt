@@ -27,7 +27,8 @@ use Rattle.book.specs.declared.Plan.the-variants.{Keep, Drop}
 use Rattle.book.specs.declared.ReleaseHop.{ReleaseHop}
 use Rattle.book.specs.declared.ReleaseHop.the-variants.{Go}
 use Rattle.book.specs.HandOver.{Uses, dropOne}
-use Rattle.book.specs.Release.{RSt, ROut, plan, planned, releaseStep, releasedFrom, resetOver, settled, releasedFlags, releaseMode, releasedHeads, releasedBook}
+use Rattle.book.specs.Release.{RSt, ROut, plan, planned, releaseStep, releasedFrom, resetOver, settled, releasedFlags, releaseMode}
+use Rattle.book.specs.Release.{releasedHeads, releasedBook}
 use Rattle.book.specs.World.{World, release}
 use Rattle.book.specs.Hops.{turned}
 
@@ -116,10 +117,12 @@ module _ (w : ℕ → ℕ) (u : Uses) (p : ℕ) (mode : Mode) where
     released-drop rest e = released-eq ∙ simp (g, h, e)
 
   module _ {r : ReleaseHop} (v : Uses) (told : turned r p v ≡ releaseStep w (u, p, mode)) where
-    pub released-turn : (t : ReleaseHop) → r ≡ t → {o : ROut} → o ≡ after (turned t p v) (λ s. releasedFrom w (s .0) (s .1) (s .2)) → o ≡ releasedFrom w u p mode
+    pub released-turn : (t : ReleaseHop) → r ≡ t → {o : ROut} → o ≡ after (turned t p v) (λ s. releasedFrom w (s .0) (s .1) (s .2))
+        → o ≡ releasedFrom w u p mode
     released-turn t e h =
         h
-        ∙ ap (λ (n : Next RSt ROut). after n (λ s. releasedFrom w (s .0) (s .1) (s .2))) (ap (λ (x : ReleaseHop). turned x p v) (sym e) ∙ told)
+        ∙ ap (λ (n : Next RSt ROut). after n (λ s. releasedFrom w (s .0) (s .1) (s .2)))
+        (ap (λ (x : ReleaseHop). turned x p v) (sym e) ∙ told)
         ∙ sym released-eq
 
     pub turn-falls : (next : ℕ) (rest : Mode) (n : ℕ) → r ≡ Go next rest → inUse (u .0) ≡ n → inUse (v .0) < n

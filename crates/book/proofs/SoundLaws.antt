@@ -30,7 +30,8 @@ use Rattle.words.proofs.SetLaws.{freeCount-falls}
 use Rattle.registers.specs.Table.{headsOf, flagsFit}
 use Rattle.book.specs.declared.Hop.{Hop}
 use Rattle.book.specs.declared.Hop.the-variants.{Go}
-use Rattle.book.specs.Sound.{WSt, WOut, walkStep, walkFrom, walkAll, sameList, firstStep, firstsFrom, firstsAll, lengthFits, lengthsFit, sound}
+use Rattle.book.specs.Sound.{WSt, WOut, walkStep, walkFrom, walkAll, sameList, firstStep, firstsFrom, firstsAll, lengthFits}
+use Rattle.book.specs.Sound.{lengthsFit, sound}
 use Rattle.book.specs.World.{soundBook}
 use Rattle.book.specs.Hops.{walked, noted}
 
@@ -243,7 +244,8 @@ module _ (w : ℕ → ℕ) (t used lens : List ℕ) where
   unfolding soundBook
   sound-flags f = simp f
 
-  module _ {s : List ℕ} {b : Bool} {v : List ℕ} (f : flagsFit t ≡ true) (clear : s ≡ emptySet) (walk : (b, v) ≡ walkAll w (headsOf t) s) where
+  module _ {s : List ℕ} {b : Bool} {v : List ℕ} (f : flagsFit t ≡ true) (clear : s ≡ emptySet)
+      (walk : (b, v) ≡ walkAll w (headsOf t) s) where
     at-empty : walkAll w (headsOf t) emptySet ≡ (b, v)
     at-empty = sym (walk ∙ ap (λ (l : List ℕ). walkAll w (headsOf t) l) clear)
 

@@ -119,7 +119,8 @@ module _ (kinds : List ℕ) (w : ℕ → ℕ) (pl : Place) (met : List ℕ) (p :
   judgeStep-go t e = at (eqb (faultAt kinds w pl met p) 0) (eqb (w (wordOf p)) 0) refl (sym faultAt-step ∙ e)
     where
       at : (a b : Bool) → eqb (faultAt kinds w pl met p) 0 ≡ a
-          → pick {A = Next JSt JOut} a (pick b (stop (0, 0, addFour met (wordOf p))) (go onward)) (stop (faultAt kinds w pl met p, p, met)) ≡ go t
+          → pick {A = Next JSt JOut} a (pick b (stop (0, 0, addFour met (wordOf p))) (go onward)) (stop (faultAt kinds w pl met p, p, met))
+          ≡ go t
           → (faultAt kinds w pl met p ≡ 0) × (onward ≡ t)
       at true true f q = let z : _≡_ {A = ℕ} 0 1 = cc in absurd (omega arith)
       at true false f q = (eqb-true _ _ f, cc)
@@ -130,7 +131,8 @@ module _ (kinds : List ℕ) (w : ℕ → ℕ) (pl : Place) (met : List ℕ) (p :
   judgeStep-stop j e = at (eqb (faultAt kinds w pl met p) 0) (eqb (w (wordOf p)) 0) (sym faultAt-step ∙ e)
     where
       at : (a b : Bool)
-          → pick {A = Next JSt JOut} a (pick b (stop (0, 0, addFour met (wordOf p))) (go onward)) (stop (faultAt kinds w pl met p, p, met)) ≡ stop j
+          → pick {A = Next JSt JOut} a (pick b (stop (0, 0, addFour met (wordOf p))) (go onward)) (stop (faultAt kinds w pl met p, p, met))
+          ≡ stop j
           → ((0, 0, addFour met (wordOf p)) ≡ j) ⊎ ((faultAt kinds w pl met p, p, met) ≡ j)
       at true true q = inl (cc)
       at true false q = let z : _≡_ {A = ℕ} 0 1 = cc in absurd (omega arith)
@@ -152,7 +154,8 @@ module _ (kinds : List ℕ) (w : ℕ → ℕ) (pl : Place) (met : List ℕ) (p :
   chain-eq = run-eq (judgeStep kinds w) _ _ (judgeStep-falls kinds w) (pl, met, p)
 
   -- the equation, once it is known what the step does
-  chain-step : (x : Next JSt JOut) → judgeStep kinds w (pl, met, p) ≡ x → chainOf kinds w pl met p ≡ after x (λ t. chainOf kinds w (t .0) (t .1) (t .2))
+  chain-step : (x : Next JSt JOut) → judgeStep kinds w (pl, met, p) ≡ x
+      → chainOf kinds w pl met p ≡ after x (λ t. chainOf kinds w (t .0) (t .1) (t .2))
   chain-step x e = chain-eq ∙ ap (λ (y : Next JSt JOut). after y (λ t. chainOf kinds w (t .0) (t .1) (t .2))) e
 
   pub chain-12 : goodPtr p ≡ false → chainOf kinds w pl met p ≡ (12, p, met)
@@ -175,14 +178,16 @@ module _ (kinds : List ℕ) (w : ℕ → ℕ) (pl : Place) (met : List ℕ) (p :
         chain-end z = chain-step (stop (0, 0, addFour met (wordOf p))) (simp (g, f, eq-eqb _ _ n, eq-eqb _ _ z))
 
         pub chain-go : w (wordOf p) ≢ 0
-            → chainOf kinds w pl met p ≡ chainOf kinds w (behind pl (w (wordOf p + 2)) (w (wordOf p + 3))) (addFour met (wordOf p)) (w (wordOf p))
+            → chainOf kinds w pl met p ≡ chainOf kinds w (behind pl (w (wordOf p + 2)) (w (wordOf p + 3))) (addFour met (wordOf p))
+            (w (wordOf p))
         unfolding judgeStep
         chain-go z = chain-step (go (onward kinds w pl met p)) (simp (g, f, eq-eqb _ _ n, ne-eqb _ _ z))
 
 -- ---- what holds of every answer of a walk, if it holds of each step's
 
 module _ {S R : Type 0} (step : S → Next S R) (out : S → R) (I : S → Type 0) (P : R → Type 0)
-    (ends : (s : S) → I s → P (out s)) (stops : (s : S) (r : R) → I s → step s ≡ stop r → P r) (goes : (s t : S) → I s → step s ≡ go t → I t) where
+    (ends : (s : S) → I s → P (out s)) (stops : (s : S) (r : R) → I s → step s ≡ stop r → P r) (goes : (s t : S) → I s → step s ≡ go t
+    → I t) where
   runFor-all : (n : ℕ) (s : S) → I s → P (runFor step out n s)
   runFor-all zero s i = ends s i
   runFor-all (suc n) s i = at (step s) refl (λ t e. runFor-all n t (goes s t i e))

@@ -5,7 +5,8 @@
 --     transmit-refused, transmit-past, receive-refused, receive-end, receive-past   what each leaf hands on
 --     transmit-eq, receive-eq       what a rule answers is what follows the hand that it was given
 --     transmit-less, receive-less   and that is over fewer words
---     follow-told                   the place in such a number is a word; where the number is 16, the descriptor there has its length in order
+--     follow-told                   the place in such a number is a word; where the number is 16, the descriptor there has its length in
+--                                   order
 --     measured-words, bufferRoom-words   the descriptor there, by its four words
 --     said-good, said-plain, said-barred   the answer, by the number
 --     verdict-told                  the answer from the rules' number
@@ -87,7 +88,8 @@ unfolding transmitPast transmitStep
 past-transmit w pl met k s = at (eqb (w k) 0) (eop (w (k + 3))) refl
   where
     at : (a b : Bool) → eop (w (k + 3)) ≡ b
-        → transmitStep (pick a (transmit.Stop 0) (pick b (transmit.Start (w k)) (transmit.Middle (w k) (sopAt pl (w (k + 3))) (sumAt pl (w (k + 2)))))) (addFour met k)
+        → transmitStep (pick a (transmit.Stop 0)
+        (pick b (transmit.Start (w k)) (transmit.Middle (w k) (sopAt pl (w (k + 3))) (sumAt pl (w (k + 2)))))) (addFour met k)
         ≡ pick {A = Next JSt JOut} a (stop (0, 0, addFour met k)) (go (behind pl (w (k + 2)) (w (k + 3)), addFour met k, w k))
     at true b e = refl
     at false true e = rw (behind-end pl (w (k + 2)) (w (k + 3)) s e) refl
@@ -95,7 +97,8 @@ past-transmit w pl met k s = at (eqb (w k) 0) (eop (w (k + 3))) refl
 
 module _ (kinds : List ℕ) (w : ℕ → ℕ) (pl : Place) (met : List ℕ) (p n : ℕ) (is : n ≡ faultAt kinds w pl met p) (none : n ≡ 0)
     (k : ℕ) (at-k : k ≡ wordOf p) (l : List ℕ) (marked : l ≡ addFour met k) where
-  pub transmit-past : (d : Descriptor) (h : TransmitHand) → sideAt pl ≡ Transmit → d ≡ descAt w k → h ≡ transmitPast pl (d .next) (d .word2) (d .word3)
+  pub transmit-past : (d : Descriptor) (h : TransmitHand) → sideAt pl ≡ Transmit → d ≡ descAt w k
+      → h ≡ transmitPast pl (d .next) (d .word2) (d .word3)
       → transmitStep h l ≡ judgeStep kinds w (pl, met, p)
   unfolding descAt
   transmit-past d h s e q = rw (q, e, marked) (past-transmit w pl met k s) ∙ step-past kinds w pl met p n is k none at-k
@@ -108,7 +111,8 @@ module _ (kinds : List ℕ) (w : ℕ → ℕ) (met : List ℕ) (p n : ℕ) (is :
 
   pub receive-past : next ≢ 0 → receiveStep (receive.Buffer next) l ≡ judgeStep kinds w (Buffer, met, p)
   unfolding receiveStep behind
-  receive-past z = rw (marked, word-0) (sym (rw (ne-eqb (w k) 0 (λ e. z (word-0 ∙ e))) refl)) ∙ step-past kinds w Buffer met p n is k none at-k
+  receive-past z = rw (marked, word-0) (sym (rw (ne-eqb (w k) 0 (λ e. z (word-0 ∙ e))) refl))
+      ∙ step-past kinds w Buffer met p n is k none at-k
 
 -- ---- what a rule answers
 
@@ -144,7 +148,8 @@ placeOf-side : (side : Side) → sideAt (placeOf side) ≡ side
 placeOf-side Transmit = refl
 placeOf-side Receive = refl
 
-module _ (kinds : List ℕ) (w : ℕ → ℕ) (side : Side) (met : List ℕ) (p v : ℕ) (l : List ℕ) (is : unpacked v l ≡ chainOf kinds w (placeOf side) met p) where
+module _ (kinds : List ℕ) (w : ℕ → ℕ) (side : Side) (met : List ℕ) (p v : ℕ) (l : List ℕ)
+    (is : unpacked v l ≡ chainOf kinds w (placeOf side) met p) where
   pub follow-told : ((k : ℕ) → w k < 2 ^ 32) → p < 2 ^ 32 → (v / 256 < 2 ^ 32) × (v % 256 ≡ 16 → Measured w side (v / 256))
   follow-told small h = rw (← is) at (chain-place kinds w small side (placeOf side) met p (placeOf-side side) h)
 
@@ -160,7 +165,8 @@ module _ (kinds : List ℕ) (w : ℕ → ℕ) (side : Side) (n p : ℕ) where
   pub said-plain : n ≢ 0 → n ≢ 16 → Bad (record { number = n; place = p; room = Free }) ≡ said kinds w side (n, p, [])
   said-plain z b = rw (ne-eqb n 0 z, ne-eqb n 16 b) refl
 
-  pub said-barred : (room : Room) → n ≡ 16 → room ≡ bufferRoom kinds w side (wordOf p) → Bad (record { number = n; place = p; room = room }) ≡ said kinds w side (n, p, [])
+  pub said-barred : (room : Room) → n ≡ 16 → room ≡ bufferRoom kinds w side (wordOf p)
+      → Bad (record { number = n; place = p; room = room }) ≡ said kinds w side (n, p, [])
   said-barred room b e = rw (← e, b) refl
 
 -- a chain of one descriptor: its fault is the chain's
@@ -168,7 +174,8 @@ pub ends-good : (w : ℕ → ℕ) (p : ℕ) → endsAt w p ≡ true → goodPtr 
 unfolding endsAt
 ends-good w p e = both-left (goodPtr p) (eqb (w (wordOf p)) 0) e
 
-module _ (kinds : List ℕ) (w : ℕ → ℕ) (side : Side) (met : List ℕ) (p n : ℕ) (pl : Place) (at : pl ≡ placeOf side) (is : n ≡ faultAt kinds w pl met p) where
+module _ (kinds : List ℕ) (w : ℕ → ℕ) (side : Side) (met : List ℕ) (p n : ℕ) (pl : Place) (at : pl ≡ placeOf side)
+    (is : n ≡ faultAt kinds w pl met p) where
   fault-is : n ≡ faultAt kinds w (placeOf side) met p
   fault-is = rw (← at) is
 
@@ -184,7 +191,8 @@ module _ (kinds : List ℕ) (w : ℕ → ℕ) (side : Side) (met : List ℕ) (p 
       ∙ rw (faultAt-step kinds w (placeOf side) met p, ← fault-is, z) (by (eqb n 0))
     where
       by : (b : Bool)
-          → after (pick {A = Next JSt JOut} b (stop (0, 0, addFour met (wordOf p))) (stop (n, p, met))) (λ t. chainOf kinds w (t .0) (t .1) (t .2))
+          → after (pick {A = Next JSt JOut} b (stop (0, 0, addFour met (wordOf p))) (stop (n, p, met)))
+          (λ t. chainOf kinds w (t .0) (t .1) (t .2))
           ≡ pick {A = JOut} b (0, 0, addFour met (wordOf p)) (n, p, met)
       by true = refl
       by false = refl
@@ -193,7 +201,8 @@ module _ (kinds : List ℕ) (w : ℕ → ℕ) (side : Side) (met : List ℕ) (p 
   unfolding verdictOf
   verdict-single e r q = q ∙ sym (ap (λ (j : JOut). said kinds w side j) (one-step e) ∙ by (eqb n 0) refl)
     where
-      by : (b : Bool) → eqb n 0 ≡ b → said kinds w side (pick {A = JOut} b (0, 0, addFour met (wordOf p)) (n, p, met)) ≡ said kinds w side (n, p, [])
+      by : (b : Bool) → eqb n 0 ≡ b
+          → said kinds w side (pick {A = JOut} b (0, 0, addFour met (wordOf p)) (n, p, met)) ≡ said kinds w side (n, p, [])
       by true z = rw z refl
       by false z = refl
 
@@ -203,6 +212,7 @@ module _ (kinds : List ℕ) (w : ℕ → ℕ) (side : Side) (p k : ℕ) (d : Des
   unfolding descAt
   measured-words m = rw (is, at-k) (m .1)
 
-  pub bufferRoom-words : roomOf side kinds (firstByte side (d .buffer) (d .word2) (d .word3)) (lengthOf side (d .word2)) ≡ bufferRoom kinds w side (wordOf p)
+  pub bufferRoom-words : roomOf side kinds (firstByte side (d .buffer) (d .word2) (d .word3)) (lengthOf side (d .word2))
+      ≡ bufferRoom kinds w side (wordOf p)
   unfolding descAt bufferRoom
   bufferRoom-words = rw (is, at-k) refl

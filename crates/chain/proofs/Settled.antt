@@ -13,5 +13,6 @@ use Rattle.chain.proofs.check_chain.Kinds as kinds
 use Rattle.chain.proofs.check_chain.Reads as reads
 
 module _ (κs : Lfts 3) (a : Dens κs kinds.ps) (r s : Verdict) (x y : AtExit (endedOf 3 kinds.ps kinds.r) κs) where
-  pub checkChain-unique : reads.Post κs a r x → reads.Post κs a s y → _≡_ {A = Verdict × List ℕ} (r, view (x .1 .1 .1 .0 .now)) (s, view (y .1 .1 .1 .0 .now))
+  pub checkChain-unique : reads.Post κs a r x → reads.Post κs a s y
+      → _≡_ {A = Verdict × List ℕ} (r, view (x .1 .1 .1 .0 .now)) (s, view (y .1 .1 .1 .0 .now))
   checkChain-unique p q = p ∙ sym q

@@ -148,7 +148,8 @@ fn transmit_past(pl: Place, d: Descriptor) -> TransmitHand
 // The first descriptor of a packet, judged and met.
 fn judge_start(m: &[u8], kinds: &[u8], met: &mut Words, at: u32) -> TransmitHand
     requires { ⌜ length (now m) ≡ descBytes ⌝ }
-    ensures { λ r. ⌜ transmitStep r (view (now (met .exit))) ≡ judgeStep (now (kinds .entry)) (word (now (m .entry))) (Place.Start, view (now (met .entry)), at) ⌝ }
+    ensures { λ r. ⌜ transmitStep r (view (now (met .exit)))
+        ≡ judgeStep (now (kinds .entry)) (word (now (m .entry))) (Place.Start, view (now (met .entry)), at) ⌝ }
 {
     let n = fault_at(m, kinds, met, Place::Start, at);
     if n != 0 {
@@ -169,7 +170,8 @@ fn judge_middle(
     sum: u32,
 ) -> TransmitHand
     requires { ⌜ length (now m) ≡ descBytes ⌝ }
-    ensures { λ r. ⌜ transmitStep r (view (now (met .exit))) ≡ judgeStep (now (kinds .entry)) (word (now (m .entry))) (Place.Middle sop sum, view (now (met .entry)), at) ⌝ }
+    ensures { λ r. ⌜ transmitStep r (view (now (met .exit)))
+        ≡ judgeStep (now (kinds .entry)) (word (now (m .entry))) (Place.Middle sop sum, view (now (met .entry)), at) ⌝ }
 {
     let n = fault_at(m, kinds, met, Place::Middle(sop, sum), at);
     if n != 0 {
@@ -183,7 +185,8 @@ fn judge_middle(
 // A receive descriptor, judged and met.
 fn judge_buffer(m: &[u8], kinds: &[u8], met: &mut Words, at: u32) -> ReceiveHand
     requires { ⌜ length (now m) ≡ descBytes ⌝ }
-    ensures { λ r. ⌜ receiveStep r (view (now (met .exit))) ≡ judgeStep (now (kinds .entry)) (word (now (m .entry))) (Place.Buffer, view (now (met .entry)), at) ⌝ }
+    ensures { λ r. ⌜ receiveStep r (view (now (met .exit)))
+        ≡ judgeStep (now (kinds .entry)) (word (now (m .entry))) (Place.Buffer, view (now (met .entry)), at) ⌝ }
 {
     let n = fault_at(m, kinds, met, Place::Buffer, at);
     if n != 0 {
@@ -201,7 +204,8 @@ fn judge_buffer(m: &[u8], kinds: &[u8], met: &mut Words, at: u32) -> ReceiveHand
 // The transmit chain from at, where a packet starts.
 fn start_rule(m: &&[u8], kinds: &&[u8], met: &mut Words, at: u32) -> u64
     requires { ⌜ length (now (now m)) ≡ descBytes ⌝ }
-    ensures { λ r. ⌜ unpacked r (view (now (met .exit))) ≡ chainOf (now (now (kinds .entry))) (word (now (now (m .entry)))) Place.Start (view (now (met .entry))) at ⌝ }
+    ensures { λ r. ⌜ unpacked r (view (now (met .exit)))
+        ≡ chainOf (now (now (kinds .entry))) (word (now (now (m .entry)))) Place.Start (view (now (met .entry))) at ⌝ }
 {
     let h = judge_start(*m, *kinds, met, at);
     match h {
@@ -214,7 +218,8 @@ fn start_rule(m: &&[u8], kinds: &&[u8], met: &mut Words, at: u32) -> u64
 // The transmit chain from at, in the middle of a packet.
 fn middle_rule(m: &&[u8], kinds: &&[u8], met: &mut Words, at: u32, sop: u32, sum: u32) -> u64
     requires { ⌜ length (now (now m)) ≡ descBytes ⌝ }
-    ensures { λ r. ⌜ unpacked r (view (now (met .exit))) ≡ chainOf (now (now (kinds .entry))) (word (now (now (m .entry)))) (Place.Middle sop sum) (view (now (met .entry))) at ⌝ }
+    ensures { λ r. ⌜ unpacked r (view (now (met .exit)))
+        ≡ chainOf (now (now (kinds .entry))) (word (now (now (m .entry)))) (Place.Middle sop sum) (view (now (met .entry))) at ⌝ }
 {
     let h = judge_middle(*m, *kinds, met, at, sop, sum);
     match h {
@@ -227,7 +232,8 @@ fn middle_rule(m: &&[u8], kinds: &&[u8], met: &mut Words, at: u32, sop: u32, sum
 // The receive chain from at.
 fn receive_rule(m: &&[u8], kinds: &&[u8], met: &mut Words, at: u32) -> u64
     requires { ⌜ length (now (now m)) ≡ descBytes ⌝ }
-    ensures { λ r. ⌜ unpacked r (view (now (met .exit))) ≡ chainOf (now (now (kinds .entry))) (word (now (now (m .entry)))) Place.Buffer (view (now (met .entry))) at ⌝ }
+    ensures { λ r. ⌜ unpacked r (view (now (met .exit))) ≡ chainOf (now (now (kinds .entry))) (word (now (now (m .entry)))) Place.Buffer
+        (view (now (met .entry))) at ⌝ }
 {
     let h = judge_buffer(*m, *kinds, met, at);
     match h {
@@ -239,7 +245,8 @@ fn receive_rule(m: &&[u8], kinds: &&[u8], met: &mut Words, at: u32) -> u64
 // The chain of a side by its rules.
 fn follow(side: Side, m: &[u8], kinds: &[u8], met: &mut Words, at: u32) -> u64
     requires { ⌜ length (now m) ≡ descBytes ⌝ }
-    ensures { λ r. ⌜ unpacked r (view (now (met .exit))) ≡ chainOf (now (kinds .entry)) (word (now (m .entry))) (placeOf side) (view (now (met .entry))) at ⌝ }
+    ensures { λ r. ⌜ unpacked r (view (now (met .exit)))
+        ≡ chainOf (now (kinds .entry)) (word (now (m .entry))) (placeOf side) (view (now (met .entry))) at ⌝ }
 {
     let words = m;
     let table = kinds;
@@ -276,7 +283,8 @@ fn verdict_at(side: Side, m: &[u8], kinds: &[u8], number: u8, place: u32) -> Ver
 // What is said of a chain. met comes in with the words in use, so that 13 is one test, and goes out with the words met added.
 pub fn check_chain(side: Side, m: &[u8], kinds: &[u8], met: &mut Words, at: u32) -> Verdict
     requires { ⌜ length (now m) ≡ descBytes ⌝ }
-    ensures { λ r. ⌜ (r, view (now (met .exit))) ≡ verdictOf side (now (kinds .entry)) (word (now (m .entry))) (view (now (met .entry))) at ⌝ }
+    ensures { λ r. ⌜ (r, view (now (met .exit)))
+        ≡ verdictOf side (now (kinds .entry)) (word (now (m .entry))) (view (now (met .entry))) at ⌝ }
 {
     let v = follow(side, m, kinds, met, at);
     verdict_at(side, m, kinds, (v % LOW_BYTE) as u8, (v / LOW_BYTE) as u32)

@@ -21,7 +21,8 @@ use Rattle.registers.specs.Table.{hdpOf}
 use Rattle.phases.specs.declared.Receiving.the-variants.{Fetch}
 use Rattle.phases.specs.Quiet.{waits}
 use Rattle.controller.specs.declared.Controller.{Controller}
-use Rattle.controller.specs.Controller.{StepDone, Framed, answer, unlessUndefined, rxOf, heldBack, framed, setRx, frameOf, registerWrite, unguardedWrite}
+use Rattle.controller.specs.Controller.{StepDone, Framed, answer, unlessUndefined, rxOf, heldBack, framed, setRx, frameOf}
+use Rattle.controller.specs.Controller.{registerWrite, unguardedWrite}
 
 module _ (c : Controller) (m : List ℕ) (x : StepDone) where
   pub entry-unfit : length m ≢ descBytes → unlessUndefined c m x ≡ answer 1 c m
@@ -73,7 +74,8 @@ module _ (n : ℕ) (c : Controller) where
   taken = framed 0 (setRx 0 (Fetch (record { first = hdpOf (c .state) (queueOf Receive 0); stored = 0; left = n })) c)
 
   abbrev unless-taken : Framed
-  unless-taken = pick (both (not (eqb (hdpOf (c .state) (queueOf Receive 0)) 0)) (both (waits (rxOf c 0)) (not (heldBack c (queueOf Receive 0))))) taken (framed 24 c)
+  unless-taken = pick (both (not (eqb (hdpOf (c .state) (queueOf Receive 0)) 0))
+      (both (waits (rxOf c 0)) (not (heldBack c (queueOf Receive 0))))) taken (framed 24 c)
 
   pub frame-undefined : c .undefined ≡ true → frameOf n c ≡ framed 22 c
   unfolding frameOf
@@ -100,13 +102,15 @@ module _ (n : ℕ) (c : Controller) where
         at-last (framed 22 c) taken (framed 24 c) (framed 23 c) u (le-leb _ _ low) (le-leb _ _ high)
         (no-second (not (heldBack c (queueOf Receive 0))) (not-no (ne-eqb _ _ h)) w)
 
-    pub frame-held : hdpOf (c .state) (queueOf Receive 0) ≢ 0 → waits (rxOf c 0) ≡ true → heldBack c (queueOf Receive 0) ≡ true → frameOf n c ≡ framed 24 c
+    pub frame-held : hdpOf (c .state) (queueOf Receive 0) ≢ 0 → waits (rxOf c 0) ≡ true → heldBack c (queueOf Receive 0) ≡ true
+        → frameOf n c ≡ framed 24 c
     unfolding frameOf
     frame-held h w e =
         at-last (framed 22 c) taken (framed 24 c) (framed 23 c) u (le-leb _ _ low) (le-leb _ _ high)
         (no-third (not-no (ne-eqb _ _ h)) w (not-yes e))
 
-pub frame-taken : (n : ℕ) (c : Controller) → c .undefined ≡ false → 1 ≤ n → n ≤ lengthMax → hdpOf (c .state) (queueOf Receive 0) ≢ 0 → waits (rxOf c 0) ≡ true → heldBack c (queueOf Receive 0) ≡ false
+pub frame-taken : (n : ℕ) (c : Controller) → c .undefined ≡ false → 1 ≤ n → n ≤ lengthMax → hdpOf (c .state) (queueOf Receive 0) ≢ 0
+    → waits (rxOf c 0) ≡ true → heldBack c (queueOf Receive 0) ≡ false
     → frameOf n c ≡ framed 0 (setRx 0 (Fetch (record { first = hdpOf (c .state) (queueOf Receive 0); stored = 0; left = n })) c)
 unfolding frameOf
 frame-taken n c u low high h w e =
@@ -132,12 +136,15 @@ module _ (a v : ℕ) (c : Controller) (m : List ℕ) (size : length m ≡ descBy
 
   pub write-odd : a % 4 ≢ 0 → unguardedWrite a v c m ≡ answer 3 c m
   unfolding unguardedWrite
-  write-odd h = entry-goes c m (pick (eqb (a % 4) 0) (pick (inDescriptors a) stored judged) (answer 3 c m)) size live ∙ odd (inDescriptors a) stored judged (answer 3 c m) h
+  write-odd h = entry-goes c m (pick (eqb (a % 4) 0) (pick (inDescriptors a) stored judged) (answer 3 c m)) size live
+      ∙ odd (inDescriptors a) stored judged (answer 3 c m) h
 
   pub write-word : a % 4 ≡ 0 → inDescriptors a ≡ true → unguardedWrite a v c m ≡ stored
   unfolding unguardedWrite
-  write-word h e = entry-goes c m (pick (eqb (a % 4) 0) (pick (inDescriptors a) stored judged) (answer 3 c m)) size live ∙ even stored judged (answer 3 c m) h e
+  write-word h e = entry-goes c m (pick (eqb (a % 4) 0) (pick (inDescriptors a) stored judged) (answer 3 c m)) size live
+      ∙ even stored judged (answer 3 c m) h e
 
   pub write-register : a % 4 ≡ 0 → inDescriptors a ≡ false → unguardedWrite a v c m ≡ judged
   unfolding unguardedWrite
-  write-register h e = entry-goes c m (pick (eqb (a % 4) 0) (pick (inDescriptors a) stored judged) (answer 3 c m)) size live ∙ other stored judged (answer 3 c m) h e
+  write-register h e = entry-goes c m (pick (eqb (a % 4) 0) (pick (inDescriptors a) stored judged) (answer 3 c m)) size live
+      ∙ other stored judged (answer 3 c m) h e

@@ -24,7 +24,8 @@ use Rattle.phases.specs.Receive as U
 use Rattle.registers.specs.Table.{tearingOf}
 use Rattle.controller.specs.declared.Channel.{Channel}
 use Rattle.controller.specs.declared.Controller.{Controller}
-use Rattle.controller.specs.Controller.{StepDone, idleChannel, stageOf, answer, quietEngine, quietChannel, allQuiet, onChannel, tearMark, tearClear, tearReport, tearStep}
+use Rattle.controller.specs.Controller.{StepDone, idleChannel, stageOf, answer, quietEngine, quietChannel, allQuiet, onChannel}
+use Rattle.controller.specs.Controller.{tearMark, tearClear, tearReport, tearStep}
 
 pub getD-any : (l : List ℕ) (i d e : ℕ) → i < length l → getD l i d ≡ getD l i e
 getD-any [] i d e h = absurd (not-suc-le-zero h)
@@ -74,13 +75,16 @@ take-at m x y z = cc
 -- ---- the teardown's steps by stage
 
 -- the choice of a stage, between any four outcomes
-stage-1 : {a b : Bool} {n : ℕ} (x y z w : StepDone) → a ≡ true → b ≡ true → n ≡ 1 → pick (both a b) (pick (eqb n 1) x (pick (eqb n 2) y z)) w ≡ x
+stage-1 : {a b : Bool} {n : ℕ} (x y z w : StepDone) → a ≡ true → b ≡ true → n ≡ 1
+    → pick (both a b) (pick (eqb n 1) x (pick (eqb n 2) y z)) w ≡ x
 stage-1 x y z w p q r = rw (p, q, r) refl
 
-stage-2 : {a b : Bool} {n : ℕ} (x y z w : StepDone) → a ≡ true → b ≡ true → n ≡ 2 → pick (both a b) (pick (eqb n 1) x (pick (eqb n 2) y z)) w ≡ y
+stage-2 : {a b : Bool} {n : ℕ} (x y z w : StepDone) → a ≡ true → b ≡ true → n ≡ 2
+    → pick (both a b) (pick (eqb n 1) x (pick (eqb n 2) y z)) w ≡ y
 stage-2 x y z w p q r = rw (p, q, r) refl
 
-stage-3 : {a b : Bool} {n : ℕ} (x y z w : StepDone) → a ≡ true → b ≡ true → n ≢ 1 → n ≢ 2 → pick (both a b) (pick (eqb n 1) x (pick (eqb n 2) y z)) w ≡ z
+stage-3 : {a b : Bool} {n : ℕ} (x y z w : StepDone) → a ≡ true → b ≡ true → n ≢ 1 → n ≢ 2
+    → pick (both a b) (pick (eqb n 1) x (pick (eqb n 2) y z)) w ≡ z
 stage-3 x y z w p q r s = rw (p, q, ne-eqb _ _ r, ne-eqb _ _ s) refl
 
 module _ (q : ℕ) (c : Controller) (m : List ℕ) (tearing : tearingOf (c .state) q ≡ true) (still : quietEngine c q ≡ true) where

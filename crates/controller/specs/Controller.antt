@@ -21,7 +21,8 @@ use mathlib.Core.List.{List, [], _∷_}
 use lib.ListN.{length, getD, set, replicate}
 use lib.Dec.{eqb, leb, ltb}
 use Rattle.layout.specs.Choice.{pick, both}
-use Rattle.layout.specs.Layout.{descFirst, descBytes, lengthMax, goodPtr, wordOf, inDescriptors, channels, queues, sideOf, channelOf, queueOf}
+use Rattle.layout.specs.Layout.{descFirst, descBytes, lengthMax, goodPtr, wordOf, inDescriptors, channels, queues, sideOf, channelOf}
+use Rattle.layout.specs.Layout.{queueOf}
 use Rattle.layout.specs.Class.{classAt, hdpClass}
 use Rattle.layout.specs.declared.Side.{Side}
 use Rattle.layout.specs.declared.Side.the-variants as Sides
@@ -70,7 +71,8 @@ stageOf c q = getD (c .stages) q 1
 -- ---- named changes of the record
 
 abbrev pub setState : List ℕ → Controller → Controller
-setState t c = record { state = t; stages = c .stages; channels = c .channels; undefined = c .undefined; sent = c .sent; received = c .received }
+setState t c = record
+    { state = t; stages = c .stages; channels = c .channels; undefined = c .undefined; sent = c .sent; received = c .received }
 
 abbrev pub setStage : ℕ → ℕ → Controller → Controller
 setStage q n c = record {
@@ -83,7 +85,8 @@ setStage q n c = record {
 }
 
 abbrev pub setChannels : List Channel → Controller → Controller
-setChannels cs c = record { state = c .state; stages = c .stages; channels = cs; undefined = c .undefined; sent = c .sent; received = c .received }
+setChannels cs c = record
+    { state = c .state; stages = c .stages; channels = cs; undefined = c .undefined; sent = c .sent; received = c .received }
 
 abbrev pub setTx : ℕ → Sending → Controller → Controller
 setTx ch s c = setChannels (set (c .channels) ch (record { tx = s; rx = rxOf c ch })) c
@@ -135,7 +138,8 @@ setRegs q hdp cp c = setState (setHdp q hdp (setCp q cp (c .state))) c
 abbrev pub sendMoved : ℕ → Sends × List ℕ → Controller → List ℕ → StepDone
 sendMoved ch (Sends.Unfit, x) c m = undefine c m
 sendMoved ch (Sends.Went s, x) c m = record {
-  ctl = setRegs (queueOf Sides.Transmit ch) (s .hdp) (s .cp) (setTotals (added (c .sent) (s .octets)) (c .received) (setTx ch (s .state) c));
+  ctl = setRegs (queueOf Sides.Transmit ch) (s .hdp) (s .cp)
+      (setTotals (added (c .sent) (s .octets)) (c .received) (setTx ch (s .state) c));
   mem = x;
   burst = s .burst;
   number = 0;

@@ -24,7 +24,9 @@ ghost use lib.ListN.{getD};
 ghost use Rattle.layout.specs.Choice.{both};
 ghost use Rattle.layout.specs.Layout.{channels, queues, queueOf};
 ghost use Rattle.registers.specs.Table.{hdpOf, cpOf};
-ghost use Rattle.controller.specs.Controller.{idleChannel, idleChannels, txOf, rxOf, stageOf, setTx, setRx, setTotals, setRegs, setStage, added, heldBack, quietEngine, quietChannel, allQuiet, setIdle, outcome, answer, undefine};
+ghost use Rattle.controller.specs.Controller.{idleChannel, idleChannels, txOf, rxOf, stageOf, setTx, setRx, setTotals, setRegs};
+ghost use Rattle.controller.specs.Controller.{setStage, added, heldBack, quietEngine, quietChannel, allQuiet, setIdle, outcome};
+ghost use Rattle.controller.specs.Controller.{answer, undefine};
 
 const TOTAL_MAX: u64 = 0xFFFF_FFFF_FFFF_FFFF;
 

@@ -48,7 +48,8 @@ ghost use mathlib.Core.List.{List};
 ghost use Prim.Native.Nat.{ℕ, _<_};
 ghost use lib.ListN.{length};
 ghost use Rattle.layout.specs.Layout.{descBytes, channels, queues, queueOf};
-ghost use Rattle.controller.specs.Controller.{outcome, onChannel, sendMoved, takeMoved, transmitStep, receiveStep, tearMark, tearClear, tearReport, tearStep, resetStep};
+ghost use Rattle.controller.specs.Controller.{outcome, onChannel, sendMoved, takeMoved, transmitStep, receiveStep, tearMark};
+ghost use Rattle.controller.specs.Controller.{tearClear, tearReport, tearStep, resetStep};
 
 // The record after a transmit step that went.
 fn after_sending(c: Controller, ch: usize, t: Sent) -> Stepped

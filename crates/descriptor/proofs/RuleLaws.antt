@@ -26,7 +26,8 @@ use Rattle.layout.proofs.ChoiceLaws.{want, shun, orElse-zero, orElse-pass, pick
 use Rattle.descriptor.specs.declared.Place.{Place}
 use Rattle.descriptor.specs.declared.Place.the-variants.{Start, Middle, Buffer}
 use Rattle.descriptor.specs.Fields.{sop, eop, owner, eoq, td, packetLength, lengthOf, offsetOf, firstByte}
-use Rattle.descriptor.specs.Rules.{sideAt, endFlagsFault, flagsFault, offsetBad, lengthFault, sopAt, sumAt, endFault, sumFault, behind, nextFault, ownFault, fetchFault}
+use Rattle.descriptor.specs.Rules.{sideAt, endFlagsFault, flagsFault, offsetBad, lengthFault, sopAt, sumAt, endFault, sumFault}
+use Rattle.descriptor.specs.Rules.{behind, nextFault, ownFault, fetchFault}
 
 -- ---- 14
 
@@ -68,7 +69,8 @@ flagsFault-buffer x3 e =
     let d = end-flags x3 (c .1) in
     (a .0, b .0, c .0, d .0, d .1)
 
-pub flagsFault-buffer-pass : (x3 : ℕ) → owner x3 ≡ true → sop x3 ≡ false → eop x3 ≡ false → eoq x3 ≡ false → td x3 ≡ false → flagsFault Buffer x3 ≡ 0
+pub flagsFault-buffer-pass : (x3 : ℕ) → owner x3 ≡ true → sop x3 ≡ false → eop x3 ≡ false → eoq x3 ≡ false → td x3 ≡ false
+    → flagsFault Buffer x3 ≡ 0
 unfolding flagsFault
 flagsFault-buffer-pass x3 a b c p q = simp (a, b, c, p, q)
 
@@ -81,7 +83,8 @@ lengthOf-lt Receive x2 = omega arith
 
 -- the three tests of 15, in a row
 length-tests : (side : Side) (x1 x2 x3 : ℕ) → lengthFault side x1 x2 x3 ≡ 0
-    → (eqb (lengthOf side x2) 0 ≡ false) × (offsetBad side x2 ≡ false) × (ltb addressEnd (firstByte side x1 x2 x3 + lengthOf side x2) ≡ false)
+    → (eqb (lengthOf side x2) 0 ≡ false) × (offsetBad side x2 ≡ false)
+    × (ltb addressEnd (firstByte side x1 x2 x3 + lengthOf side x2) ≡ false)
 unfolding lengthFault
 length-tests side x1 x2 x3 e =
     let a = shun 14 (eqb (lengthOf side x2) 0) _ e in

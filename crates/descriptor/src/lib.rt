@@ -18,7 +18,8 @@ ghost use Rattle.layout.specs.Choice.{pick};
 ghost use Rattle.layout.specs.Layout.{descBytes, wordMax};
 ghost use Rattle.words.specs.Word.{word};
 ghost use Rattle.descriptor.specs.Fields.{descAt, sop, eop, owner, eoq, td, longEnd, packetLength, lengthOf, firstByte};
-ghost use Rattle.descriptor.specs.Rules.{sideAt, endFlagsFault, flagsFault, offsetBad, lengthFault, sopAt, sumAt, endFault, sumFault, behind, nextFault, ownFault, fetchFault};
+ghost use Rattle.descriptor.specs.Rules.{sideAt, endFlagsFault, flagsFault, offsetBad, lengthFault, sopAt, sumAt, endFault};
+ghost use Rattle.descriptor.specs.Rules.{sumFault, behind, nextFault, ownFault, fetchFault};
 
 // The flags of word 3, by bit number.
 pub const SOP: u32 = 31;

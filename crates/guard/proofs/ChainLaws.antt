@@ -27,7 +27,8 @@ bad-at : (t : Bool) (f g : Fault) → pick t Good (Bad f) ≡ Bad g → (t ≡ f
 bad-at true f g e = let z : _≡_ {A = ℕ} 0 1 = cc in absurd (omega arith)
 bad-at false f g e = (refl, ap verdictNumber (sym e))
 
-pub verdict-used : (side : Side) (kinds : List ℕ) (w : ℕ → ℕ) (u met met2 : List ℕ) (p : ℕ) (c : Verdict) → met ≡ u → (c, met2) ≡ verdictOf side kinds w met p
+pub verdict-used : (side : Side) (kinds : List ℕ) (w : ℕ → ℕ) (u met met2 : List ℕ) (p : ℕ) (c : Verdict) → met ≡ u
+    → (c, met2) ≡ verdictOf side kinds w met p
     → c ≡ verdictOf side kinds w u p .0
 verdict-used side kinds w u met met2 p c em ev =
     ap (λ (x : Verdict × List ℕ). x .0) ev ∙ ap (λ (l : List ℕ). verdictOf side kinds w l p .0) em
@@ -55,7 +56,8 @@ module _ (side : Side) (kinds : List ℕ) (w : ℕ → ℕ) (u : List ℕ) (p : 
   over-taken l x e ex = rw (chain-good e) (ap (λ (y : Uses). (0, y)) ex)
 
 module _ (side : Side) (kinds : List ℕ) (k : ℕ) (m u : List ℕ) (p : ℕ) (c : Verdict) (ev : c ≡ verdictOf side kinds (word m) u p .0) where
-  pub append-refused : (l : List ℕ) (f : Fault) (n : ℕ) → c ≡ Bad f → n ≡ verdictNumber c → (n, (u, l), m) ≡ appended side kinds k m (u, l) p
+  pub append-refused : (l : List ℕ) (f : Fault) (n : ℕ) → c ≡ Bad f → n ≡ verdictNumber c
+      → (n, (u, l), m) ≡ appended side kinds k m (u, l) p
   unfolding appended
   append-refused l f n e en =
       let b = chain-bad side kinds (word m) u p c ev f n e en in
@@ -65,4 +67,5 @@ module _ (side : Side) (kinds : List ℕ) (k : ℕ) (m u : List ℕ) (p : ℕ) (
       → (0, x, y) ≡ appended side kinds k m (u, l) p
   unfolding appended
   append-taken l x y e ex ey =
-      rw (chain-good side kinds (word m) u p c ev e) (ap (λ (z : Uses). (0, z, y)) ex ∙ ap (λ (z : List ℕ). (0, takenFrom (word m) side (u, l) p, z)) ey)
+      rw (chain-good side kinds (word m) u p c ev e)
+      (ap (λ (z : Uses). (0, z, y)) ex ∙ ap (λ (z : List ℕ). (0, takenFrom (word m) side (u, l) p, z)) ey)

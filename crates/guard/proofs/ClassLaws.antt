@@ -12,8 +12,10 @@ use Rattle.layout.specs.Choice.{pick}
 use Rattle.layout.specs.Layout.{queues}
 use Rattle.layout.specs.Class.{hdpClass, cpClass, teardownClass, resetClass, passedClass, unofferedClass, unguardedClass}
 use Rattle.registers.specs.Table.{awaiting, setTearing}
-use Rattle.registers.specs.Rules.{ackFault, ackWritten, tearQueue, teardownNumber, resetNumber, resetWritten, zeroFault, registerFault, written}
-use Rattle.registers.proofs.RegisterLaws.{byClass-low, byClass-ack, byClass-mid, byClass-teardown, byClass-reset, byClass-zero, byClass-passed, byClass-unoffered, byClass-unguarded}
+use Rattle.registers.specs.Rules.{ackFault, ackWritten, tearQueue, teardownNumber, resetNumber, resetWritten, zeroFault, registerFault}
+use Rattle.registers.specs.Rules.{written}
+use Rattle.registers.proofs.RegisterLaws.{byClass-low, byClass-ack, byClass-mid, byClass-teardown, byClass-reset, byClass-zero}
+use Rattle.registers.proofs.RegisterLaws.{byClass-passed, byClass-unoffered, byClass-unguarded}
 use Rattle.guard.specs.declared.Effect.the-variants.{Plain}
 use Rattle.guard.specs.declared.Answer.{Answer}
 use Rattle.guard.specs.declared.Answer.the-variants.{Accepted, Refused}
@@ -38,7 +40,8 @@ module _ (m k t u l : List ℕ) (n v : ℕ) where
   pub class-ack : cpClass ≤ n → n < cpClass + queues → {q : ℕ} → q ≡ n - cpClass → {r : Answer} {t′ : List ℕ}
       → (r, t′) ≡ ruled (ackFault (awaiting t) v) (ackWritten t q v) t → Says r t′
   unfolding registerFault written
-  class-ack h g e o = class-ruled m k t u l n v (omega arith) (byClass-ack n _ _ _ _ _ _ _ _ h g) (byClass-ack n _ _ _ _ _ _ _ _ h g ∙ ap (λ (i : ℕ). ackWritten t i v) (sym e)) o
+  class-ack h g e o = class-ruled m k t u l n v (omega arith) (byClass-ack n _ _ _ _ _ _ _ _ h g)
+      (byClass-ack n _ _ _ _ _ _ _ _ h g ∙ ap (λ (i : ℕ). ackWritten t i v) (sym e)) o
 
   pub class-teardown : teardownClass ≤ n → n < resetClass → {q : ℕ} → q ≡ tearQueue (n - teardownClass) v → {r : Answer} {t′ : List ℕ}
       → (r, t′) ≡ ruled (teardownNumber t q v) (setTearing q t) t → Says r t′

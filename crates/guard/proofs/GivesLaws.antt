@@ -40,7 +40,8 @@ use Rattle.guard.specs.declared.Answer.the-variants.{Accepted, Refused}
 use Rattle.guard.specs.declared.Tail.{Tail}
 use Rattle.guard.specs.declared.Tail.the-variants.{Of, Nobody}
 use Rattle.guard.specs.Answers.{Outcome, accept, refuse, answerTo, worldAt, Gives}
-use Rattle.guard.specs.Judges.{started, judgeStart, judgeHead, judgeRegister, tailIn, judgeAppend, judgeLast, judgeWord, judgeClass, judge}
+use Rattle.guard.specs.Judges.{started, judgeStart, judgeHead, judgeRegister, tailIn, judgeAppend, judgeLast, judgeWord, judgeClass}
+use Rattle.guard.specs.Judges.{judge}
 use Rattle.guard.specs.Guard.{stateFault, admitted, guestWrite}
 use Rattle.book.proofs.QuietLaws.{release-quiet}
 use Rattle.guard.specs.Rulings.{handedOver, appended, ruled, freeWord, plainStore}
@@ -126,7 +127,8 @@ module _ (m k t u l : List ℕ) where
     unfolding handedOver
     start-refused h = start-refused-at (eqb (chainOf k (word m) (placeOf (sideOf q)) u p .0) 0) _ _ handed h _
 
-    start-taken-at : (b : Bool) (j : ℕ) (y : Uses) → eqb j 0 ≡ b → (n, x) ≡ pick {A = ℕ × Uses} b (0, y) (j, (u, l)) → n ≡ 0 → (e : Effect) (t′ : List ℕ)
+    start-taken-at : (b : Bool) (j : ℕ) (y : Uses) → eqb j 0 ≡ b → (n, x) ≡ pick {A = ℕ × Uses} b (0, y) (j, (u, l)) → n ≡ 0
+        → (e : Effect) (t′ : List ℕ)
         → Gives (pick b (accept e (setState t′ (setUses y here))) (refuse j here)) (Accepted e) m k t′ (x .0) (x .1)
     start-taken-at true j y i e h f t′ = record {
       answer = refl;
@@ -138,10 +140,12 @@ module _ (m k t u l : List ℕ) where
     }
     start-taken-at false j y i e h f t′ = clash (eq-eqb j 0 (sym (ap (λ (z : ℕ × Uses). z .0) e) ∙ h)) i
 
-    pub start-taken : n ≡ 0 → {c : ℕ} → c ≡ channelOf q → Gives (judgeStart q p here) (Accepted (Started side c)) m k (setHdp q p (setHead q p t)) (x .0) (x .1)
+    pub start-taken : n ≡ 0 → {c : ℕ} → c ≡ channelOf q
+        → Gives (judgeStart q p here) (Accepted (Started side c)) m k (setHdp q p (setHead q p t)) (x .0) (x .1)
     unfolding handedOver
     start-taken h {c} e =
-        let g = start-taken-at (eqb (chainOf k (word m) (placeOf (sideOf q)) u p .0) 0) _ _ refl handed h (Started (sideOf q) (channelOf q)) (setHdp q p (setHead q p t)) in
+        let g = start-taken-at (eqb (chainOf k (word m) (placeOf (sideOf q)) u p .0) 0) _ _ refl handed h
+        (Started (sideOf q) (channelOf q)) (setHdp q p (setHead q p t)) in
         record { answer = rw (s, e) refl ∙ g .answer; mem = g .mem; kinds = g .kinds; state = g .state; used = g .used; lens = g .lens }
 
   -- ---- HDP
@@ -169,15 +173,34 @@ module _ (m k t u l : List ℕ) where
 
   -- ---- any register
 
-  pub class-head : (n v : ℕ) {q : ℕ} → n < hdpClass + queues → q ≡ n - hdpClass → {r : Answer} {t′ u′ l′ : List ℕ} → Gives (judgeHead q v here) r m k t′ u′ l′
+  pub class-head : (n v : ℕ) {q : ℕ} → n < hdpClass + queues → q ≡ n - hdpClass → {r : Answer} {t′ u′ l′ : List ℕ}
+      → Gives (judgeHead q v here) r m k t′ u′ l′
       → Gives (judgeClass n v here) r m k t′ u′ l′
   unfolding judgeClass
-  class-head n v h e g = gives-as (pick-true (ltb n (hdpClass + queues)) _ _ (lt-ltb n (hdpClass + queues) h) ∙ ap (λ (i : ℕ). judgeHead i v here) (sym e)) g
+  class-head n v h e g =
+      gives-as (pick-true (ltb n (hdpClass + queues)) _ _ (lt-ltb n (hdpClass + queues) h) ∙ ap (λ (i : ℕ). judgeHead i v here) (sym e)) g
 
-  ruled-at : (b : Bool) (j : ℕ) (t₁ : List ℕ) {r : Answer} {t′ : List ℕ} → (r, t′) ≡ pick {A = Answer × List ℕ} b (Accepted Plain, t₁) (Refused j, t)
+  ruled-at : (b : Bool) (j : ℕ) (t₁ : List ℕ) {r : Answer} {t′ : List ℕ}
+      → (r, t′) ≡ pick {A = Answer × List ℕ} b (Accepted Plain, t₁) (Refused j, t)
       → Gives (pick b (accept Plain (setState t₁ here)) (refuse j here)) r m k t′ u l
-  ruled-at true j t₁ e = record { answer = ap (λ (z : Answer × List ℕ). z .0) e; mem = refl; kinds = refl; state = ap (λ (z : Answer × List ℕ). z .1) e; used = refl; lens = refl }
-  ruled-at false j t₁ e = record { answer = ap (λ (z : Answer × List ℕ). z .0) e; mem = refl; kinds = refl; state = ap (λ (z : Answer × List ℕ). z .1) e; used = refl; lens = refl }
+  ruled-at true j t₁ e =
+      record {
+        answer = ap (λ (z : Answer × List ℕ). z .0) e;
+        mem = refl;
+        kinds = refl;
+        state = ap (λ (z : Answer × List ℕ). z .1) e;
+        used = refl;
+        lens = refl;
+      }
+  ruled-at false j t₁ e =
+      record {
+        answer = ap (λ (z : Answer × List ℕ). z .0) e;
+        mem = refl;
+        kinds = refl;
+        state = ap (λ (z : Answer × List ℕ). z .1) e;
+        used = refl;
+        lens = refl;
+      }
 
   pub class-ruled : (n v : ℕ) → hdpClass + queues ≤ n → {j : ℕ} {t₁ : List ℕ} → registerFault t n v ≡ j → written t n v ≡ t₁
       → {r : Answer} {t′ : List ℕ} → (r, t′) ≡ ruled j t₁ t → Gives (judgeClass n v here) r m k t′ u l
@@ -187,7 +210,8 @@ module _ (m k t u l : List ℕ) where
 
   -- ---- an append
 
-  pub last-nobody : (i v : ℕ) {z : Tail} → z ≡ tailIn (word m) i 0 (headsOf t) → z ≡ Nobody → Gives (judgeLast i v here) (Refused 11) m k t u l
+  pub last-nobody : (i v : ℕ) {z : Tail} → z ≡ tailIn (word m) i 0 (headsOf t) → z ≡ Nobody
+      → Gives (judgeLast i v here) (Refused 11) m k t u l
   unfolding judgeLast
   last-nobody i v e f = gives-as (rw (← e, f) refl) (refused-gives 11)
 
@@ -212,7 +236,8 @@ module _ (m k t u l : List ℕ) where
     lens = ap (λ (z : ℕ × Uses × List ℕ). z .1 .1) e;
   }
 
-  pub last-append : (i v : ℕ) {z : Tail} (q : ℕ) → z ≡ tailIn (word m) i 0 (headsOf t) → z ≡ Of q → {side : Side} → side ≡ sideOf q → {c : ℕ} → c ≡ channelOf q
+  pub last-append : (i v : ℕ) {z : Tail} (q : ℕ) → z ≡ tailIn (word m) i 0 (headsOf t) → z ≡ Of q → {side : Side} → side ≡ sideOf q
+      → {c : ℕ} → c ≡ channelOf q
       → {n : ℕ} {x : Uses} {m′ : List ℕ} → (n, x, m′) ≡ appended side k i m (u, l) v → {a : Answer} → a ≡ answerTo (Appended side c) n
       → Gives (judgeLast i v here) a m′ k t (x .0) (x .1)
   unfolding judgeLast judgeAppend appended
@@ -226,7 +251,8 @@ module _ (m k t u l : List ℕ) where
   module _ (i v : ℕ) where
     pub word-free : has u i ≡ false → {m′ : List ℕ} → m′ ≡ put m i v → Gives (judgeWord i v here) (Accepted Plain) m′ k t u l
     unfolding judgeWord
-    word-free h e = gives-as (pick-false (has u i) _ _ h) (record { answer = refl; mem = e; kinds = refl; state = refl; used = refl; lens = refl })
+    word-free h e = gives-as (pick-false (has u i) _ _ h)
+        (record { answer = refl; mem = e; kinds = refl; state = refl; used = refl; lens = refl })
 
     module _ (h : has u i ≡ true) where
       pub word-busy : word m i ≢ 0 → Gives (judgeWord i v here) (Refused 11) m k t u l
@@ -237,7 +263,8 @@ module _ (m k t u l : List ℕ) where
       unfolding judgeWord
       word-zero e f = gives-as (rw (h, eq-eqb (word m i) 0 e, eq-eqb v 0 f) refl) (refused-gives 11)
 
-      pub word-last : word m i ≡ 0 → v ≢ 0 → {r : Answer} {m′ t′ u′ l′ : List ℕ} → Gives (judgeLast i v here) r m′ k t′ u′ l′ → Gives (judgeWord i v here) r m′ k t′ u′ l′
+      pub word-last : word m i ≡ 0 → v ≢ 0 → {r : Answer} {m′ t′ u′ l′ : List ℕ} → Gives (judgeLast i v here) r m′ k t′ u′ l′
+          → Gives (judgeWord i v here) r m′ k t′ u′ l′
       unfolding judgeWord
       word-last e f g = gives-as (rw (h, eq-eqb (word m i) 0 e, ne-eqb v 0 f) refl) g
 
@@ -249,11 +276,13 @@ module _ (m k t u l : List ℕ) where
     judge-3 h = gives-as (number-no (a % 4) _ _ h) (refused-gives 3)
 
     module _ (h : a % 4 ≡ 0) {b : Bool} (e : b ≡ inDescriptors a) {r : Answer} {m′ t′ u′ l′ : List ℕ} where
-      pub address-class : b ≡ false → {c : ℕ} → c ≡ classAt a → Gives (judgeClass c v here) r m′ k t′ u′ l′ → Gives (judge a v here) r m′ k t′ u′ l′
+      pub address-class : b ≡ false → {c : ℕ} → c ≡ classAt a → Gives (judgeClass c v here) r m′ k t′ u′ l′
+          → Gives (judge a v here) r m′ k t′ u′ l′
       unfolding judge
       address-class f d g = gives-as (number-yes (a % 4) _ _ h ∙ rw (← e, f, ← d) refl) g
 
-      pub address-word : b ≡ true → {i : ℕ} → i ≡ (a - descFirst) / 4 → Gives (judgeWord i v here) r m′ k t′ u′ l′ → Gives (judge a v here) r m′ k t′ u′ l′
+      pub address-word : b ≡ true → {i : ℕ} → i ≡ (a - descFirst) / 4 → Gives (judgeWord i v here) r m′ k t′ u′ l′
+          → Gives (judge a v here) r m′ k t′ u′ l′
       unfolding judge
       address-word f d g = gives-as (number-yes (a % 4) _ _ h ∙ rw (← e, f, ← d) refl) g
 
@@ -269,7 +298,8 @@ module _ (m k t u l : List ℕ) where
   refused-at true false n o e h = rw e (refused-gives 2)
   refused-at false g n o e h = rw e (refused-gives 1)
 
-  passed-at : (f g : Bool) (n : ℕ) (o : Outcome) → n ≡ pick f (pick g 0 2) 1 → n ≡ 0 → pick (not f) (refuse 1 here) (pick g o (refuse 2 here)) ≡ o
+  passed-at : (f g : Bool) (n : ℕ) (o : Outcome) → n ≡ pick f (pick g 0 2) 1 → n ≡ 0
+      → pick (not f) (refuse 1 here) (pick g o (refuse 2 here)) ≡ o
   passed-at true true n o e h = refl
   passed-at true false n o e h = absurd (omega arith)
   passed-at false g n o e h = absurd (omega arith)
@@ -303,12 +333,14 @@ module _ (m k t u l : List ℕ) where
   unfolding guestWrite
   write-refused a v e h = admitted-refused (λ s. judge a v s) e h
 
-  pub write-gives : (a v : ℕ) {n : ℕ} → n ≡ stateFault m k t u l → n ≡ 0 → {r : Answer} {m′ t′ u′ l′ : List ℕ} → Gives (judge a v (release here)) r m′ k t′ u′ l′
+  pub write-gives : (a v : ℕ) {n : ℕ} → n ≡ stateFault m k t u l → n ≡ 0 → {r : Answer} {m′ t′ u′ l′ : List ℕ}
+      → Gives (judge a v (release here)) r m′ k t′ u′ l′
       → Gives (guestWrite a v here) r m′ k t′ u′ l′
   unfolding guestWrite
   write-gives a v e h g = gives-as (admitted-passed (λ s. judge a v s) e h) g
 
-  pub write-sound : (a v : ℕ) → unfit here ≡ false → soundWorld here ≡ true → {r : Answer} {m′ t′ u′ l′ : List ℕ} → Gives (judge a v (release here)) r m′ k t′ u′ l′
+  pub write-sound : (a v : ℕ) → unfit here ≡ false → soundWorld here ≡ true → {r : Answer} {m′ t′ u′ l′ : List ℕ}
+      → Gives (judge a v (release here)) r m′ k t′ u′ l′
       → Gives (guestWrite a v here) r m′ k t′ u′ l′
   unfolding guestWrite
   write-sound a v f s g = gives-as (admitted-sound (λ x. judge a v x) f s) g
@@ -320,7 +352,8 @@ module _ (m k t u l : List ℕ) where
   store-sound a v f s e h p =
       let w = store-word (word m) t u a e h in
       write-sound a v f s
-      (released-gives a v (release-quiet here (w .3)) (address-word a v (w .0) refl (w .1) refl (word-free ((a - descFirst) / 4) v (w .2) p)))
+      (released-gives a v (release-quiet here (w .3))
+      (address-word a v (w .0) refl (w .1) refl (word-free ((a - descFirst) / 4) v (w .2) p)))
 
   -- ---- 1 and 2, as the functions find them
 

@@ -62,7 +62,8 @@ pub last-no : (w : ℕ → ℕ) (head k : ℕ) {i : ℕ} → i ≡ descriptorWor
 unfolding isLast
 last-no w head k f l = rw (place-past head (rw (← f) l)) refl
 
-pub last-test : (w : ℕ → ℕ) (head k r : ℕ) {i : ℕ} → head < addressEnd → i ≡ descriptorWord head → i ≤ 2044 → addr r ≡ lastOf w (addr i) → eqb r k ≡ isLast w head k
+pub last-test : (w : ℕ → ℕ) (head k r : ℕ) {i : ℕ} → head < addressEnd → i ≡ descriptorWord head → i ≤ 2044 → addr r ≡ lastOf w (addr i)
+    → eqb r k ≡ isLast w head k
 unfolding isLast
 last-test w head k r {i} h f l e =
     let g = place-fits head h (rw (← f) l) in
@@ -96,13 +97,15 @@ module _ (w : ℕ → ℕ) (k : ℕ) where
   tail-here-at n (h ∷ hs) zero e = rw e refl
   tail-here-at n (h ∷ hs) (suc q) e = tail-here-at n hs q e
 
-  tail-next-at : (n : ℕ) (hs : List ℕ) (q : ℕ) → isLast w (getD hs q 0) k ≡ false → tailIn w k n (drop q hs) ≡ tailIn w k (n + 1) (drop (suc q) hs)
+  tail-next-at : (n : ℕ) (hs : List ℕ) (q : ℕ) → isLast w (getD hs q 0) k ≡ false
+      → tailIn w k n (drop q hs) ≡ tailIn w k (n + 1) (drop (suc q) hs)
   tail-next-at n [] zero e = refl
   tail-next-at n [] (suc q) e = refl
   tail-next-at n (h ∷ hs) zero e = rw e refl
   tail-next-at n (h ∷ hs) (suc q) e = tail-next-at n hs q e
 
-  pub tail-here : (t : List ℕ) (n q : ℕ) {o : Tail} → q < n → isLast w (getD t q 0) k ≡ true → tailIn w k q (drop q (take n t)) ≡ o → Of q ≡ o
+  pub tail-here : (t : List ℕ) (n q : ℕ) {o : Tail} → q < n → isLast w (getD t q 0) k ≡ true → tailIn w k q (drop q (take n t)) ≡ o
+      → Of q ≡ o
   tail-here t n q h e i = sym (tail-here-at q (take n t) q (rw (getD-head n t q h) e)) ∙ i
 
   pub tail-next : (t : List ℕ) (n q : ℕ) {o : Tail} → q < n → isLast w (getD t q 0) k ≡ false → tailIn w k q (drop q (take n t)) ≡ o

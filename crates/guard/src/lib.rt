@@ -202,7 +202,8 @@ fn judge_start(
     lens: &mut Lengths,
 ) -> Answer
     requires { ⌜ (length (now m) ≡ descBytes) × (q < queues) ⌝ }
-    ensures { λ r. ⌜ Gives (judgeStart q p (worldAt (now (m .entry)) (now (kinds .entry)) (now (t .entry)) (now (used .entry)) (now (lens .entry)))) r
+    ensures { λ r. ⌜ Gives
+        (judgeStart q p (worldAt (now (m .entry)) (now (kinds .entry)) (now (t .entry)) (now (used .entry)) (now (lens .entry)))) r
         (now (m .entry)) (now (kinds .entry)) (now (t .exit)) (now (used .exit)) (now (lens .exit)) ⌝ }
 {
     let s = side_of(q);
@@ -226,7 +227,8 @@ fn judge_head(
     lens: &mut Lengths,
 ) -> Answer
     requires { ⌜ (length (now m) ≡ descBytes) × (q < queues) ⌝ }
-    ensures { λ r. ⌜ Gives (judgeHead q v (worldAt (now (m .entry)) (now (kinds .entry)) (now (t .entry)) (now (used .entry)) (now (lens .entry)))) r
+    ensures { λ r. ⌜ Gives
+        (judgeHead q v (worldAt (now (m .entry)) (now (kinds .entry)) (now (t .entry)) (now (used .entry)) (now (lens .entry)))) r
         (now (m .entry)) (now (kinds .entry)) (now (t .exit)) (now (used .exit)) (now (lens .exit)) ⌝ }
 {
     let n = head_number(t, q, v);
@@ -246,7 +248,8 @@ fn judge_head(
 // CP of queue q.
 fn judge_ack(q: usize, v: u32, t: &mut State) -> Answer
     requires { ⌜ q < queues ⌝ }
-    ensures { λ r. ⌜ (r, now (t .exit)) ≡ ruled (ackFault (awaiting (now (t .entry))) v) (ackWritten (now (t .entry)) q v) (now (t .entry)) ⌝ }
+    ensures { λ r. ⌜ (r, now (t .exit)) ≡ ruled (ackFault (awaiting (now (t .entry))) v) (ackWritten (now (t .entry)) q v)
+        (now (t .entry)) ⌝ }
 {
     let n = ack_fault(is_awaiting(t), v);
     if n != 0 {
@@ -299,7 +302,8 @@ fn judge_class(
     lens: &mut Lengths,
 ) -> Answer
     requires { ⌜ length (now m) ≡ descBytes ⌝ }
-    ensures { λ r. ⌜ Gives (judgeClass n v (worldAt (now (m .entry)) (now (kinds .entry)) (now (t .entry)) (now (used .entry)) (now (lens .entry)))) r
+    ensures { λ r. ⌜ Gives
+        (judgeClass n v (worldAt (now (m .entry)) (now (kinds .entry)) (now (t .entry)) (now (used .entry)) (now (lens .entry)))) r
         (now (m .entry)) (now (kinds .entry)) (now (t .exit)) (now (used .exit)) (now (lens .exit)) ⌝ }
 {
     match n {
@@ -370,7 +374,8 @@ fn judge_last(
     lens: &mut Lengths,
 ) -> Answer
     requires { ⌜ (length (now m) ≡ descBytes) × (k < descWords) ⌝ }
-    ensures { λ r. ⌜ Gives (judgeLast k v (worldAt (now (m .entry)) (now (kinds .entry)) (now (t .entry)) (now (used .entry)) (now (lens .entry)))) r
+    ensures { λ r. ⌜ Gives
+        (judgeLast k v (worldAt (now (m .entry)) (now (kinds .entry)) (now (t .entry)) (now (used .entry)) (now (lens .entry)))) r
         (now (m .exit)) (now (kinds .entry)) (now (t .entry)) (now (used .exit)) (now (lens .exit)) ⌝ }
 {
     let x = tail_at(m, t, k);
@@ -393,7 +398,8 @@ fn judge_word(
     lens: &mut Lengths,
 ) -> Answer
     requires { ⌜ (length (now m) ≡ descBytes) × (k < descWords) ⌝ }
-    ensures { λ r. ⌜ Gives (judgeWord k v (worldAt (now (m .entry)) (now (kinds .entry)) (now (t .entry)) (now (used .entry)) (now (lens .entry)))) r
+    ensures { λ r. ⌜ Gives
+        (judgeWord k v (worldAt (now (m .entry)) (now (kinds .entry)) (now (t .entry)) (now (used .entry)) (now (lens .entry)))) r
         (now (m .exit)) (now (kinds .entry)) (now (t .entry)) (now (used .exit)) (now (lens .exit)) ⌝ }
 {
     if !is_used(used, k) {
@@ -420,7 +426,8 @@ fn judge_address(
     lens: &mut Lengths,
 ) -> Answer
     requires { ⌜ length (now m) ≡ descBytes ⌝ }
-    ensures { λ r. ⌜ Gives (judge a v (worldAt (now (m .entry)) (now (kinds .entry)) (now (t .entry)) (now (used .entry)) (now (lens .entry)))) r
+    ensures { λ r. ⌜ Gives
+        (judge a v (worldAt (now (m .entry)) (now (kinds .entry)) (now (t .entry)) (now (used .entry)) (now (lens .entry)))) r
         (now (m .exit)) (now (kinds .entry)) (now (t .exit)) (now (used .exit)) (now (lens .exit)) ⌝ }
 {
     if a % 4 != 0 {
@@ -455,7 +462,8 @@ fn write_released(
     lens: &mut Lengths,
 ) -> Answer
     requires { ⌜ length (now m) ≡ descBytes ⌝ }
-    ensures { λ r. ⌜ Gives (judge a v (release (worldAt (now (m .entry)) (now (kinds .entry)) (now (t .entry)) (now (used .entry)) (now (lens .entry))))) r
+    ensures { λ r. ⌜ Gives
+        (judge a v (release (worldAt (now (m .entry)) (now (kinds .entry)) (now (t .entry)) (now (used .entry)) (now (lens .entry))))) r
         (now (m .exit)) (now (kinds .entry)) (now (t .exit)) (now (used .exit)) (now (lens .exit)) ⌝ }
 {
     release_any(m, t, used, lens);
@@ -558,7 +566,8 @@ pub fn guest_write_sound(
 ) -> Answer
     requires { ⌜ (unfit (worldAt (now m) (now kinds) (now t) (now used) (now lens)) ≡ false)
         × (soundWorld (worldAt (now m) (now kinds) (now t) (now used) (now lens)) ≡ true) ⌝ }
-    ensures { λ r. ⌜ Gives (guestWrite a v (worldAt (now (m .entry)) (now (kinds .entry)) (now (t .entry)) (now (used .entry)) (now (lens .entry)))) r
+    ensures { λ r. ⌜ Gives
+        (guestWrite a v (worldAt (now (m .entry)) (now (kinds .entry)) (now (t .entry)) (now (used .entry)) (now (lens .entry)))) r
         (now (m .exit)) (now (kinds .entry)) (now (t .exit)) (now (used .exit)) (now (lens .exit)) ⌝ }
 {
     if is_plain_store(a, m, t, used) {
@@ -582,7 +591,8 @@ pub fn guest_write(
     used: &mut Words,
     lens: &mut Lengths,
 ) -> Answer
-    ensures { λ r. ⌜ Gives (guestWrite a v (worldAt (now (m .entry)) (now (kinds .entry)) (now (t .entry)) (now (used .entry)) (now (lens .entry)))) r
+    ensures { λ r. ⌜ Gives
+        (guestWrite a v (worldAt (now (m .entry)) (now (kinds .entry)) (now (t .entry)) (now (used .entry)) (now (lens .entry)))) r
         (now (m .exit)) (now (kinds .entry)) (now (t .exit)) (now (used .exit)) (now (lens .exit)) ⌝ }
 {
     let n = state_fault(m, kinds, t, used, lens);

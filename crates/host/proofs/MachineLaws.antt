@@ -62,7 +62,8 @@ pub turn-told : (r : Turn) (vs : List Val) → Is S.the-row r vs → Is B.the-ro
 unfolding mach-told
 turn-told r vs is = LS.owed S.the-type S′.the-laws r vs is .0
 
-pub turn-owes : (r : Turn) → Is C.the-row (r .ctl) (mach (r .ctl) ∷ []) → Is B.the-row (r .told) (mach-told (r .told) ∷ []) → Is S.the-row r (mach-turn r ∷ [])
+pub turn-owes : (r : Turn) → Is C.the-row (r .ctl) (mach (r .ctl) ∷ []) → Is B.the-row (r .told) (mach-told (r .told) ∷ [])
+    → Is S.the-row r (mach-turn r ∷ [])
 unfolding mach mach-told
 turn-owes r c t = LS.owes S.the-type S′.the-laws r (t, (c, tt))
 
@@ -80,7 +81,8 @@ arrived-ctl r vs is = LS.owed F.the-type F′.the-laws r vs is .0
 pub arrived-number : (r : Arrived) (vs : List Val) → Is F.the-row r vs → Is u8 (r .number) (vint w8 (r .number) ∷ [])
 arrived-number r vs is = LS.owed F.the-type F′.the-laws r vs is .1 .0
 
-pub arrived-owes : (r : Arrived) → Is C.the-row (r .ctl) (mach (r .ctl) ∷ []) → Is u8 (r .number) (vint w8 (r .number) ∷ []) → Is F.the-row r (mach-arrived r ∷ [])
+pub arrived-owes : (r : Arrived) → Is C.the-row (r .ctl) (mach (r .ctl) ∷ []) → Is u8 (r .number) (vint w8 (r .number) ∷ [])
+    → Is F.the-row r (mach-arrived r ∷ [])
 unfolding mach
 arrived-owes r c n = LS.owes F.the-type F′.the-laws r (c, (n, tt))
 

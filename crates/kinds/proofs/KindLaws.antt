@@ -29,7 +29,8 @@ use Rattle.kinds.specs.Kinds.{received, inReception, kindNumber, judgeKi
 use Rattle.kinds.specs.Parts.{kindOutcome}
 
 -- ---- receive buffers
-pub received-next : (w : ℕ → ℕ) (b i j : ℕ) (l : List ℕ) → i < length l → received w j (drop i l) b ≡ pick (touches b (w (j + 1)) (getD l i 0)) true (received w (j + 1) (drop (suc i) l) b)
+pub received-next : (w : ℕ → ℕ) (b i j : ℕ) (l : List ℕ) → i < length l
+    → received w j (drop i l) b ≡ pick (touches b (w (j + 1)) (getD l i 0)) true (received w (j + 1) (drop (suc i) l) b)
 received-next w b i j [] h = absurd (omega arith)
 received-next w b zero j (x ∷ l) h = refl
 received-next w b (suc i) j (x ∷ l) h = received-next w b i j l (omega arith)
@@ -52,7 +53,8 @@ no-both false y z q = refl
 touches-low : (b lo n : ℕ) → lo + n ≤ ramFirst → touches b lo n ≡ false
 unfolding touches
 touches-low b lo n h =
-    no-both (ltb 0 n) (ltb lo (ramFirst + blockBytes * (b + 1))) (ltb (ramFirst + blockBytes * b) (lo + n)) (le-ltb (ramFirst + blockBytes * b) (lo + n) (omega arith))
+    no-both (ltb 0 n) (ltb lo (ramFirst + blockBytes * (b + 1))) (ltb (ramFirst + blockBytes * b) (lo + n))
+    (le-ltb (ramFirst + blockBytes * b) (lo + n) (omega arith))
 
 -- past descriptor memory there is no word: a buffer there would begin at 0, below RAM
 word-past : (m : List ℕ) (i : ℕ) → length m ≡ descBytes → descWords ≤ i → word m i ≡ 0
@@ -78,7 +80,8 @@ pub reception-start : (w : ℕ → ℕ) (l : List ℕ) (b : ℕ) → received w 
 unfolding inReception
 reception-start w l b = refl
 
-pub reception-found : (w : ℕ → ℕ) (b i : ℕ) (l : List ℕ) → i < length l → touches b (w (i + 1)) (getD l i 0) ≡ true → received w i (drop i l) b ≡ true
+pub reception-found : (w : ℕ → ℕ) (b i : ℕ) (l : List ℕ) → i < length l → touches b (w (i + 1)) (getD l i 0) ≡ true
+    → received w i (drop i l) b ≡ true
 reception-found w b i l h e = received-next w b i i l h ∙ rw e refl
 
 pub reception-on : (w : ℕ → ℕ) (b i : ℕ) (l : List ℕ) → i < length l → touches b (w (i + 1)) (getD l i 0) ≡ false
@@ -135,7 +138,8 @@ module _ (b k : ℕ) (w : ℕ → ℕ) (lens kinds : List ℕ) where
   unfolding kindOutcome
   kind-refused n e h = rw (← e, ne-eqb n 0 h) refl
 
-  pub kind-changed : (n : ℕ) (y : List ℕ) → n ≡ kindNumber b k w lens kinds → n ≡ 0 → y ≡ set kinds b k → (0, y) ≡ kindOutcome b k w lens kinds
+  pub kind-changed : (n : ℕ) (y : List ℕ) → n ≡ kindNumber b k w lens kinds → n ≡ 0 → y ≡ set kinds b k
+      → (0, y) ≡ kindOutcome b k w lens kinds
   unfolding kindOutcome
   kind-changed n y e h f = rw (← e, eq-eqb n 0 h, f) refl
 
@@ -151,7 +155,8 @@ module _ (m k t u l : List ℕ) where
   abbrev here : World
   here = worldAt m k t u l
 
-  changed-at : (i v : ℕ) (b : Bool) (n : ℕ) → eqb n 0 ≡ b → {x : ℕ × List ℕ} → x ≡ pick {A = ℕ × List ℕ} b (0, set k i v) (n, k) → {a : Answer} → a ≡ answerTo Plain (x .0)
+  changed-at : (i v : ℕ) (b : Bool) (n : ℕ) → eqb n 0 ≡ b → {x : ℕ × List ℕ} → x ≡ pick {A = ℕ × List ℕ} b (0, set k i v) (n, k)
+      → {a : Answer} → a ≡ answerTo Plain (x .0)
       → Gives (pick b (accept Plain (setKinds (set k i v) here)) (refuse n here)) a m (x .1) t u l
   changed-at i v true n e g h = record {
     answer = h ∙ ap (λ (y : ℕ × List ℕ). answerTo Plain (y .0)) g ∙ answer-accepted;

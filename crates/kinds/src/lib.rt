@@ -117,7 +117,9 @@ fn change_released(
     lens: &mut Lengths,
 ) -> Answer
     requires { ⌜ length (now m) ≡ descBytes ⌝ }
-    ensures { λ r. ⌜ Gives (judgeKind block kind (release (worldAt (now (m .entry)) (now (kinds .entry)) (now (t .entry)) (now (used .entry)) (now (lens .entry))))) r
+    ensures { λ r. ⌜ Gives
+        (judgeKind block kind
+        (release (worldAt (now (m .entry)) (now (kinds .entry)) (now (t .entry)) (now (used .entry)) (now (lens .entry))))) r
         (now (m .entry)) (now (kinds .exit)) (now (t .exit)) (now (used .exit)) (now (lens .exit)) ⌝ }
 {
     release_book(m, t, used, lens);
@@ -137,7 +139,8 @@ pub fn kind_change_sound(
 ) -> Answer
     requires { ⌜ (unfit (worldAt (now m) (now kinds) (now t) (now used) (now lens)) ≡ false)
         × (soundWorld (worldAt (now m) (now kinds) (now t) (now used) (now lens)) ≡ true) ⌝ }
-    ensures { λ r. ⌜ Gives (kindChange block kind (worldAt (now (m .entry)) (now (kinds .entry)) (now (t .entry)) (now (used .entry)) (now (lens .entry)))) r
+    ensures { λ r. ⌜ Gives
+        (kindChange block kind (worldAt (now (m .entry)) (now (kinds .entry)) (now (t .entry)) (now (used .entry)) (now (lens .entry)))) r
         (now (m .entry)) (now (kinds .exit)) (now (t .exit)) (now (used .exit)) (now (lens .exit)) ⌝ }
 {
     change_released(block, kind, m, kinds, t, used, lens)
@@ -153,7 +156,8 @@ pub fn kind_change(
     used: &mut Words,
     lens: &mut Lengths,
 ) -> Answer
-    ensures { λ r. ⌜ Gives (kindChange block kind (worldAt (now (m .entry)) (now (kinds .entry)) (now (t .entry)) (now (used .entry)) (now (lens .entry)))) r
+    ensures { λ r. ⌜ Gives
+        (kindChange block kind (worldAt (now (m .entry)) (now (kinds .entry)) (now (t .entry)) (now (used .entry)) (now (lens .entry)))) r
         (now (m .entry)) (now (kinds .exit)) (now (t .exit)) (now (used .exit)) (now (lens .exit)) ⌝ }
 {
     let n = state_fault(m, kinds, t, used, lens);

@@ -81,7 +81,8 @@ pub bit-setBit-same : (k w : ℕ) → bit k (setBit k w) ≡ true
 bit-setBit-same zero w =
     set-case (λ x. bit 0 x ≡ true) 0 w (λ e. e)
     (λ e. let h : w % 2 ≢ 1 = eqb-false _ _ (sym (bit-zero w) ∙ e) in bit-zero (w + 1) ∙ eq-eqb ((w + 1) % 2) 1 (omega (arith, h)))
-bit-setBit-same (suc k) w = ap (bit (suc k)) (setBit-suc k w) ∙ bit-rest k (w % 2) (setBit k (w / 2)) (omega arith) ∙ bit-setBit-same k (w / 2)
+bit-setBit-same (suc k) w = ap (bit (suc k)) (setBit-suc k w) ∙ bit-rest k (w % 2) (setBit k (w / 2)) (omega arith)
+    ∙ bit-setBit-same k (w / 2)
 
 pub bit-clearBit-same : (k w : ℕ) → bit k (clearBit k w) ≡ false
 bit-clearBit-same zero w =
@@ -158,6 +159,7 @@ low-same x y e = at (bit 0 x) refl
 pub bits-same : (n x y : ℕ) → x < 2 ^ n → y < 2 ^ n → ((k : ℕ) → k < n → bit k x ≡ bit k y) → x ≡ y
 bits-same zero x y a b f = omega arith
 bits-same (suc n) x y a b f =
-    let h : x / 2 ≡ y / 2 = bits-same n (x / 2) (y / 2) (omega arith) (omega arith) (λ k l. sym (bit-suc k x) ∙ f (suc k) (omega arith) ∙ bit-suc k y) in
+    let h : x / 2 ≡ y / 2 =
+    bits-same n (x / 2) (y / 2) (omega arith) (omega arith) (λ k l. sym (bit-suc k x) ∙ f (suc k) (omega arith) ∙ bit-suc k y) in
     let o : x % 2 ≡ y % 2 = low-same x y (f 0 (omega arith)) in
     omega arith

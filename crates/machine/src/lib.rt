@@ -1,6 +1,8 @@
 // The machine: guard and controller over one descriptor memory, one operation at a time.
-// Promises: a guest write, a kind change, a frame and a step of an engine leave exactly the controller, the guard's small state with its words
-// in use and lengths, the descriptor memory and the kinds that the definitions `applyWrite`, `applyKind`, `applyFrame` and `applyStep` give, with
+// Promises: a guest write, a kind change, a frame and a step of an engine leave exactly the controller, the guard's small state with its
+// words
+// in use and lengths, the descriptor memory and the kinds that the definitions `applyWrite`, `applyKind`, `applyFrame` and `applyStep`
+// give, with
 // their answer and burst. Before a guard call the registers in its small state are read from the controller; an accepted write reaches the
 // controller as a write that no guard has judged; frames and steps leave the guard's part alone.
 // Document 01, "Answers by number", "The controller's steps".
@@ -79,7 +81,8 @@ pub fn apply_write(
     used: &mut Words,
     lens: &mut Lengths,
 ) -> After
-    ensures { λ r. ⌜ Leaves (applyWrite a v (machineAt c (now (m .entry)) (now (kinds .entry)) (now (t .entry)) (now (used .entry)) (now (lens .entry)))) r
+    ensures { λ r. ⌜ Leaves
+        (applyWrite a v (machineAt c (now (m .entry)) (now (kinds .entry)) (now (t .entry)) (now (used .entry)) (now (lens .entry)))) r
         (now (m .exit)) (now (kinds .entry)) (now (t .exit)) (now (used .exit)) (now (lens .exit)) ⌝ }
 {
     let registers = c.state;
@@ -99,7 +102,9 @@ pub fn apply_kind(
     used: &mut Words,
     lens: &mut Lengths,
 ) -> After
-    ensures { λ r. ⌜ Leaves (applyKind block kind (machineAt c (now (m .entry)) (now (kinds .entry)) (now (t .entry)) (now (used .entry)) (now (lens .entry)))) r
+    ensures { λ r. ⌜ Leaves
+        (applyKind block kind (machineAt c (now (m .entry)) (now (kinds .entry)) (now (t .entry)) (now (used .entry)) (now (lens .entry))))
+        r
         (now (m .entry)) (now (kinds .exit)) (now (t .exit)) (now (used .exit)) (now (lens .exit)) ⌝ }
 {
     let registers = c.state;

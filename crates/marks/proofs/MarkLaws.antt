@@ -49,18 +49,21 @@ module _ (here latched d : ℕ) (m : List ℕ) where
   unfolding lastMarked
   word-lastMarked-length l h g b =
       word-marked-other (lastMark latched) d _ (d + 2) (λ e. omega (arith, e))
-      ∙ word-put-same m (d + 2) (putLength here (word m (d + 2))) l (omega arith) (putLength-lt here (word m (d + 2)) g (word-lt m (d + 2) b))
+      ∙ word-put-same m (d + 2) (putLength here (word m (d + 2))) l (omega arith)
+      (putLength-lt here (word m (d + 2)) g (word-lt m (d + 2) b))
 
   pub word-lastMarked-flags : length m ≡ 8192 → d ≤ 2044 → Bytes m
       → word (lastMarked here latched d m) (d + 3) ≡ lastMark latched (word m (d + 3))
   unfolding lastMarked between
   word-lastMarked-flags l h b =
-      let small : lastMark latched (word between (d + 3)) < 2 ^ 32 = rw flags-between (lastMark-lt latched (word m (d + 3)) (word-lt m (d + 3) b)) in
+      let small : lastMark latched (word between (d + 3)) < 2 ^ 32 =
+      rw flags-between (lastMark-lt latched (word m (d + 3)) (word-lt m (d + 3) b)) in
       word-marked-same (lastMark latched) d between (length-put m (d + 2) (putLength here (word m (d + 2))) ∙ l) h small
       ∙ ap (lastMark latched) flags-between
 
   pub lastMarked-keeps-bytes : here < 2048 → Bytes m → Bytes (lastMarked here latched d m)
   unfolding lastMarked between
   lastMarked-keeps-bytes g b =
-      let kept : Bytes between = put-keeps-bytes m (d + 2) (putLength here (word m (d + 2))) (putLength-lt here (word m (d + 2)) g (word-lt m (d + 2) b)) b in
+      let kept : Bytes between =
+      put-keeps-bytes m (d + 2) (putLength here (word m (d + 2))) (putLength-lt here (word m (d + 2)) g (word-lt m (d + 2) b)) b in
       marked-keeps-bytes (lastMark latched) d between (lastMark-lt latched (word between (d + 3)) (word-lt between (d + 3) kept)) kept

@@ -108,7 +108,8 @@ fn leaves_both(n: u32, room: u32, left: u32) -> bool
 impl Storing {
     // The phase after a burst of n bytes.
     fn advance(self, n: u32) -> Receiving
-        requires { ⌜ (n ≤ self .room) × (n ≤ self .left) × (self .stored + self .left ≤ lengthMax) × (self .at + self .room ≤ addressEnd) ⌝ }
+        requires { ⌜ (n ≤ self .room) × (n ≤ self .left) × (self .stored + self .left ≤ lengthMax)
+            × (self .at + self .room ≤ addressEnd) ⌝ }
         ensures { λ r. ⌜ r ≡ advanced self n ⌝ }
     {
         let at = self.at;

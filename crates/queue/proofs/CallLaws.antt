@@ -28,9 +28,14 @@ use Rattle.words.specs.WordSet.{emptySet, has}
 use Rattle.words.proofs.WordLaws.{length-put}
 use Rattle.blocks.specs.Kinds.{fitKinds}
 use Rattle.blocks.proofs.KindLaws.{set-keeps-fitKinds}
-use Rattle.registers.specs.Table.{stateWords, headOf, cpOf, awaiting, headsOf, flagsFit, setHead, setHdp, setCp, setTearing, setReset, loaded}
+use Rattle.registers.specs.Table.{stateWords, headOf, cpOf, awaiting, headsOf, flagsFit, setHead, setHdp, setCp, setTearing, setReset}
+use Rattle.registers.specs.Table.{loaded}
 use Rattle.registers.specs.Rules.{byClass, tearQueue, headNumber, registerFault, headWritten, ackWritten, resetWritten, written}
-use Rattle.registers.proofs.TableLaws.{getD-headsOf, length-setHead, headsOf-setHead, flagsFit-setHead, length-setHdp, headsOf-setHdp, flagsFit-setHdp, length-setCp, headsOf-setCp, flagsFit-setCp, length-setMarks, headsOf-setMarks, flagsFit-setMark, length-setTearings, headsOf-setTearings, flagsFit-setTearing, length-setReset, headsOf-setReset, flagsFit-setReset, length-setResetBit, headsOf-setResetBit, flagsFit-setResetBit, length-loaded, headsOf-loaded, flagsFit-loaded}
+use Rattle.registers.proofs.TableLaws.{getD-headsOf, length-setHead, headsOf-setHead, flagsFit-setHead, length-setHdp, headsOf-setHdp}
+use Rattle.registers.proofs.TableLaws.{flagsFit-setHdp, length-setCp, headsOf-setCp, flagsFit-setCp, length-setMarks, headsOf-setMarks}
+use Rattle.registers.proofs.TableLaws.{flagsFit-setMark, length-setTearings, headsOf-setTearings, flagsFit-setTearing, length-setReset}
+use Rattle.registers.proofs.TableLaws.{headsOf-setReset, flagsFit-setReset, length-setResetBit, headsOf-setResetBit, flagsFit-setResetBit}
+use Rattle.registers.proofs.TableLaws.{length-loaded, headsOf-loaded, flagsFit-loaded}
 use Rattle.registers.proofs.RegisterLaws.{tearQueue-lt}
 use Rattle.book.specs.HandOver.{takenFrom}
 use Rattle.book.specs.Release.{releasedAll, releaseMode, withHeads}
@@ -39,7 +44,8 @@ use Rattle.guard.specs.declared.Answer.{Answer}
 use Rattle.guard.specs.declared.Tail.{Tail}
 use Rattle.guard.specs.declared.Tail.the-variants.{Of, Nobody}
 use Rattle.guard.specs.Answers.{Outcome, refuse, worldAt, Gives}
-use Rattle.guard.specs.Judges.{judgeChain, started, judgeHead, judgeRegister, isLast, tailIn, judgeAppend, atTail, judgeLast, judgeWord, judgeClass, judge}
+use Rattle.guard.specs.Judges.{judgeChain, started, judgeHead, judgeRegister, isLast, tailIn, judgeAppend, atTail, judgeLast, judgeWord}
+use Rattle.guard.specs.Judges.{judgeClass, judge}
 use Rattle.guard.specs.Guard.{admitted, guestWrite}
 use Rattle.kinds.specs.Kinds.{kindNumber, judgeKind, kindChange}
 use Rattle.queue.specs.Calls.{FitSound, LeavesSound, Call, write, kind, read, called, calledAll}
@@ -88,7 +94,8 @@ pub record Keeps (t u : List ℕ) : Type 0 where
   pub flags : flagsFit u ≡ true
 
 pub rewrite-held : (s : World) → Held s → (t : List ℕ) → Keeps (s .state) t → Held (setState t s)
-rewrite-held s h t k = record { size = h .size; kinds = h .kinds; state = k .size ∙ h .state; flags = k .flags; booked = rw (k .heads) (h .booked) }
+rewrite-held s h t k =
+    record { size = h .size; kinds = h .kinds; state = k .size ∙ h .state; flags = k .flags; booked = rw (k .heads) (h .booked) }
 
 -- ---- the release
 
@@ -134,7 +141,8 @@ module _ (s : World) (h : Held s) where
         flags = flagsFit-setHdp u q p l ∙ flagsFit-setHead t q p l ∙ h .flags;
         booked =
             rw (headsOf-setHdp u q p, headsOf-setHead t q p l)
-            (start-booked (s .kinds) (s .mem) (headsOf t) (s .used, s .lens) q p (omega (arith, many)) (h .booked) z (getD-headsOf t q l ∙ e));
+            (start-booked (s .kinds) (s .mem) (headsOf t) (s .used, s .lens) q p (omega (arith, many)) (h .booked) z
+            (getD-headsOf t q l ∙ e));
       }
 
   -- the world that an append leaves
@@ -155,13 +163,16 @@ module _ (s : World) (h : Held s) where
 
 -- what is related for each queue number and each side is related for every class; of an HDP only where the class is one
 pub byClass-both : {A B : Type 0} (R : A → B → Type 0) (n : ℕ) (a b c : ℕ → A) (d e f g h : A) (a′ b′ c′ : ℕ → B) (d′ e′ f′ g′ h′ : B)
-    → (n < hdpClass + queues → R (a (n - hdpClass)) (a′ (n - hdpClass))) → ((q : ℕ) → q < queues → R (b q) (b′ q)) → ((x : ℕ) → x < 2 → R (c x) (c′ x)) → R d d′
+    → (n < hdpClass + queues → R (a (n - hdpClass)) (a′ (n - hdpClass))) → ((q : ℕ) → q < queues → R (b q) (b′ q))
+    → ((x : ℕ) → x < 2 → R (c x) (c′ x)) → R d d′
     → R e e′ → R f f′ → R g g′ → R h h′ → R (byClass n a b c d e f g h) (byClass n a′ b′ c′ d′ e′ f′ g′ h′)
 unfolding byClass
 byClass-both {A = A} {B = B} R n a b c d e f g h a′ b′ c′ d′ e′ f′ g′ h′ pa pb pc pd pe pf pg ph =
     by (ltb n (hdpClass + queues)) _ _ _ _ (λ z. pa (ltb-true n (hdpClass + queues) z))
-    (by (both (leb cpClass n) (ltb n (cpClass + queues))) _ _ _ _ (λ z. let l = ltb-true n (cpClass + queues) (both-right (leb cpClass n) _ z) in pb (n - cpClass) (omega arith))
-    (by (both (leb teardownClass n) (ltb n resetClass)) _ _ _ _ (λ z. let l = ltb-true n resetClass (both-right (leb teardownClass n) _ z) in pc (n - teardownClass) (omega arith))
+    (by (both (leb cpClass n) (ltb n (cpClass + queues))) _ _ _ _
+    (λ z. let l = ltb-true n (cpClass + queues) (both-right (leb cpClass n) _ z) in pb (n - cpClass) (omega arith))
+    (by (both (leb teardownClass n) (ltb n resetClass)) _ _ _ _
+    (λ z. let l = ltb-true n resetClass (both-right (leb teardownClass n) _ z) in pc (n - teardownClass) (omega arith))
     (by (eqb n resetClass) _ _ _ _ (λ z. pd)
     (by (both (ltb resetClass n) (ltb n passedClass)) _ _ _ _ (λ z. pe)
     (by (both (leb passedClass n) (ltb n unofferedClass)) _ _ _ _ (λ z. pf)
@@ -196,7 +207,8 @@ module _ (t : List ℕ) (f : flagsFit t ≡ true) where
   ack-keeps : (v q : ℕ) → q < queues → Keeps t (ackWritten t q v)
   unfolding ackWritten
   ack-keeps v q l =
-      let k : (x : ℕ) → Keeps t (setCp q x t) = λ x. record { size = length-setCp t q x; heads = headsOf-setCp t q x; flags = flagsFit-setCp t q x l ∙ f } in
+      let k : (x : ℕ) → Keeps t (setCp q x t) =
+      λ x. record { size = length-setCp t q x; heads = headsOf-setCp t q x; flags = flagsFit-setCp t q x l ∙ f } in
       let u = setCp q v t in
       by-pick (Keeps t) (awaiting t) _ _
       (λ e. record {
@@ -326,7 +338,8 @@ read-sound : (c : List ℕ) → LeavesSound (called (read c))
 read-sound c s f =
     let h = held-of s f in
     let t = s .state in
-    of-held _ (rewrite-held s h (loaded c t) (record { size = length-loaded c t; heads = headsOf-loaded c t; flags = flagsFit-loaded c t ∙ h .flags }))
+    of-held _ (rewrite-held s h (loaded c t)
+    (record { size = length-loaded c t; heads = headsOf-loaded c t; flags = flagsFit-loaded c t ∙ h .flags }))
 
 pub calls-sound : (cs : List Call) → LeavesSound (calledAll cs)
 calls-sound [] s f = f
@@ -358,5 +371,12 @@ fresh-sound m kinds t l k n f e =
       kinds = k;
       state = n;
       flags = f;
-      booked = record { qs = replicate queues []; heads = e; linked = linked-each (word m) (replicate queues []) (λ j. rw (getD-same {A = List ℕ} queues j []) tt); sole = sole-empty; recorded = recorded-empty };
+      booked = record {
+        qs = replicate queues [];
+        heads = e;
+        linked = linked-each (word m) (replicate queues []) (λ j. rw (getD-same {A = List ℕ} queues j []) tt);
+        sole =
+            sole-empty;
+        recorded = recorded-empty;
+      };
     })

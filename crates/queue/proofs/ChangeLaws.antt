@@ -31,7 +31,8 @@ use Rattle.queue.proofs.JudgedLaws.{Judged, Taken, judged-list, judged-
 use Rattle.queue.proofs.SoundLaws.{Queues}
 use Rattle.queue.proofs.LastLaws.{last-yes}
 use Rattle.queue.proofs.SetLaws.{length-kept, length-starts}
-use Rattle.queue.proofs.GrowLaws.{starts-set, starts-grow, linked-at, linked-put, sole-grow, recorded-grow, store-free, Appended, appended}
+use Rattle.queue.proofs.GrowLaws.{starts-set, starts-grow, linked-at, linked-put, sole-grow, recorded-grow, store-free, Appended}
+use Rattle.queue.proofs.GrowLaws.{appended}
 
 abbrev pub Booked : (ℕ → ℕ) → List ℕ → Uses → Type 0
 Booked w hs u = Queues w hs (u .0) (u .1)
@@ -55,7 +56,8 @@ released-booked w n hs u b =
 
 -- ---- a store
 
-pub store-booked : (m : List ℕ) (k x : ℕ) (hs : List ℕ) (u : Uses) → has (u .0) k ≡ false → Booked (word m) hs u → Booked (word (put m k x)) hs u
+pub store-booked : (m : List ℕ) (k x : ℕ) (hs : List ℕ) (u : Uses) → has (u .0) k ≡ false → Booked (word m) hs u
+    → Booked (word (put m k x)) hs u
 store-booked m k x hs u f b = record {
   qs = b .qs;
   heads = b .heads;
@@ -128,7 +130,8 @@ module _ (kinds : List ℕ) (m : List ℕ) (xs : List (List ℕ)) (u : Uses) (p 
   taken-here q ys s r =
       rw (side-place (sideOf (length xs))) at (judged-taken kinds w (placeOf (sideOf (length xs))) u p out (xs ++ q ∷ ys) j s r)
 
-  start-here : (ys : List (List ℕ)) → LinkedAll w (xs ++ [] ∷ ys) → Sole (u .0) (flat (xs ++ [] ∷ ys)) → Recorded (u .1) (receiving (xs ++ [] ∷ ys))
+  start-here : (ys : List (List ℕ)) → LinkedAll w (xs ++ [] ∷ ys) → Sole (u .0) (flat (xs ++ [] ∷ ys))
+      → Recorded (u .1) (receiving (xs ++ [] ∷ ys))
       → Booked w (set (starts (xs ++ [] ∷ ys)) (length xs) p) taken
   start-here ys l s r =
       let t = taken-here [] ys s r in
@@ -182,10 +185,12 @@ module _ (kinds m hs : List ℕ) (u : Uses) (q p : ℕ) (there : q < length hs) 
           (start-here kinds m (a .xs) u p _ (judged-list kinds (word m) (placeOf (sideOf (length (a .xs)))) (u .0) p (rw (a .place) at z))
           (a .ys) (rw none at (a .linked)) (rw none at (a .sole)) (rw none at (a .recorded)))
 
-  pub append-booked : (k : ℕ) → length m ≡ 8192 → isLast (word m) (getD hs q 0) k ≡ true → Booked (word (put m k p)) hs (takenFrom (word m) (sideOf q) u p)
+  pub append-booked : (k : ℕ) → length m ≡ 8192 → isLast (word m) (getD hs q 0) k ≡ true
+      → Booked (word (put m k p)) hs (takenFrom (word m) (sideOf q) u p)
   append-booked k size e = at (booked-at (word m) hs u q there b)
     where
-      by : (a : At (word m) hs u q) → (cs : List ℕ) × (a .here ≡ cs ++ k ∷ []) → Booked (word (put m k p)) hs (takenFrom (word m) (sideOf q) u p)
+      by : (a : At (word m) hs u q) → (cs : List ℕ) × (a .here ≡ cs ++ k ∷ [])
+          → Booked (word (put m k p)) hs (takenFrom (word m) (sideOf q) u p)
       by a l =
           rw (a .heads, l .1, a .place)
           (append-here kinds m (a .xs) u p _ (judged-list kinds (word m) (placeOf (sideOf (length (a .xs)))) (u .0) p (rw (a .place) at z))

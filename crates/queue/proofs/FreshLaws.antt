@@ -21,7 +21,8 @@ use Rattle.descriptor.specs.Rules.{sideAt, lengthFault, behind, endsAt, nextFau
 use Rattle.descriptor.specs.declared.Place.{Place}
 use Rattle.descriptor.specs.declared.Place.the-variants.{Start, Middle, Buffer}
 use Rattle.chain.specs.Chain.{placeOf}
-use Rattle.descriptor.proofs.RuleLaws.{flagsFault-start, flagsFault-middle, flagsFault-buffer, lengthFault-length, lengthFault-end, sideAt-behind, nextFault-more, ownFault-parts, fetchFault-pass}
+use Rattle.descriptor.proofs.RuleLaws.{flagsFault-start, flagsFault-middle, flagsFault-buffer, lengthFault-length, lengthFault-end}
+use Rattle.descriptor.proofs.RuleLaws.{sideAt-behind, nextFault-more, ownFault-parts, fetchFault-pass}
 use Rattle.queue.proofs.Queue.{start, All, behindAt, Fresh}
 use Rattle.queue.proofs.KeptLaws.{Live}
 use Rattle.queue.proofs.StoreLaws.{Same3}

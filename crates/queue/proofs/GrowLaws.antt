@@ -26,27 +26,32 @@ use Rattle.queue.proofs.RecordLaws.{gain, recorded-perm}
 
 -- ---- heads
 
-pub starts-set : (xs : List (List ℕ)) (q r : List ℕ) (ys : List (List ℕ)) → starts (xs ++ r ∷ ys) ≡ set (starts (xs ++ q ∷ ys)) (length xs) (start r)
+pub starts-set : (xs : List (List ℕ)) (q r : List ℕ) (ys : List (List ℕ))
+    → starts (xs ++ r ∷ ys) ≡ set (starts (xs ++ q ∷ ys)) (length xs) (start r)
 starts-set [] q r ys = refl
 starts-set (x ∷ xs) q r ys = ap (λ (l : List ℕ). start x ∷ l) (starts-set xs q r ys)
 
-pub starts-grow : (xs : List (List ℕ)) (q es : List ℕ) (ys : List (List ℕ)) → start q ≢ 0 → starts (xs ++ (q ++ es) ∷ ys) ≡ starts (xs ++ q ∷ ys)
+pub starts-grow : (xs : List (List ℕ)) (q es : List ℕ) (ys : List (List ℕ)) → start q ≢ 0
+    → starts (xs ++ (q ++ es) ∷ ys) ≡ starts (xs ++ q ∷ ys)
 starts-grow [] q es ys n = ap (λ (p : ℕ). p ∷ starts ys) (start-append q es n)
 starts-grow (x ∷ xs) q es ys n = ap (λ (l : List ℕ). start x ∷ l) (starts-grow xs q es ys n)
 
 -- ---- links
 
-pub linked-at : (w : ℕ → ℕ) (xs : List (List ℕ)) (q : List ℕ) (ys : List (List ℕ)) → LinkedAll w (xs ++ q ∷ ys) → LinkedAll w xs × Linked w q × LinkedAll w ys
+pub linked-at : (w : ℕ → ℕ) (xs : List (List ℕ)) (q : List ℕ) (ys : List (List ℕ)) → LinkedAll w (xs ++ q ∷ ys)
+    → LinkedAll w xs × Linked w q × LinkedAll w ys
 linked-at w [] q ys l = (tt, l .0, l .1)
 linked-at w (x ∷ xs) q ys l = let r = linked-at w xs q ys (l .1) in ((l .0, r .0), r .1, r .2)
 
-pub linked-put : (w : ℕ → ℕ) (xs : List (List ℕ)) (q : List ℕ) (ys : List (List ℕ)) → LinkedAll w xs → Linked w q → LinkedAll w ys → LinkedAll w (xs ++ q ∷ ys)
+pub linked-put : (w : ℕ → ℕ) (xs : List (List ℕ)) (q : List ℕ) (ys : List (List ℕ)) → LinkedAll w xs → Linked w q → LinkedAll w ys
+    → LinkedAll w (xs ++ q ∷ ys)
 linked-put w [] q ys a b c = (b, c)
 linked-put w (x ∷ xs) q ys a b c = (a .0, linked-put w xs q ys (a .1) b c)
 
 -- ---- words in use and recorded lengths
 
-pub sole-grow : {u : List ℕ} (xs : List (List ℕ)) (q es : List ℕ) (ys : List (List ℕ)) → Sole u (es ++ flat (xs ++ q ∷ ys)) → Sole u (flat (xs ++ (q ++ es) ∷ ys))
+pub sole-grow : {u : List ℕ} (xs : List (List ℕ)) (q es : List ℕ) (ys : List (List ℕ)) → Sole u (es ++ flat (xs ++ q ∷ ys))
+    → Sole u (flat (xs ++ (q ++ es) ∷ ys))
 sole-grow xs q es ys s = sole-perm (λ k. simp (flat-append, count-append) (omega arith)) s
 
 side-two : (n : ℕ) → sideOf (suc (suc n)) ≡ sideOf n
@@ -69,11 +74,13 @@ grow-to P [] q es (y ∷ ys) a = rw side-zero at a
 grow-to P (x ∷ []) q es ys a =
     let b : All P (es ++ (q ++ receiving ys)) = rw side-one at a in
     let c = all-right P es (q ++ receiving ys) b in
-    all-join P (q ++ es) (receiving ys) (all-join P q es (all-left P q (receiving ys) c) (all-left P es (q ++ receiving ys) b)) (all-right P q (receiving ys) c)
+    all-join P (q ++ es) (receiving ys) (all-join P q es (all-left P q (receiving ys) c) (all-left P es (q ++ receiving ys) b))
+    (all-right P q (receiving ys) c)
 grow-to P (x ∷ z ∷ xs) q es ys a = at (sideOf (length xs)) (rw (side-two (length xs)) at a) (grow-to P xs q es ys)
   where
     at : (side : Side) → All P (gain side es (z ++ receiving (xs ++ q ∷ ys)))
-        → (All P (gain side es (receiving (xs ++ q ∷ ys))) → All P (receiving (xs ++ (q ++ es) ∷ ys))) → All P (z ++ receiving (xs ++ (q ++ es) ∷ ys))
+        → (All P (gain side es (receiving (xs ++ q ∷ ys))) → All P (receiving (xs ++ (q ++ es) ∷ ys)))
+        → All P (z ++ receiving (xs ++ (q ++ es) ∷ ys))
     at Transmit b f = all-join P z _ (all-left P z _ b) (f (all-right P z _ b))
     at Receive b f =
         let c = all-right P es (z ++ receiving (xs ++ q ∷ ys)) b in
@@ -86,7 +93,8 @@ grow-from P [] q es (y ∷ ys) a = rw side-zero a
 grow-from P (x ∷ []) q es ys a =
     let b = all-left P (q ++ es) (receiving ys) a in
     rw side-one
-    (all-join P es (q ++ receiving ys) (all-right P q es b) (all-join P q (receiving ys) (all-left P q es b) (all-right P (q ++ es) (receiving ys) a)))
+    (all-join P es (q ++ receiving ys) (all-right P q es b)
+    (all-join P q (receiving ys) (all-left P q es b) (all-right P (q ++ es) (receiving ys) a)))
 grow-from P (x ∷ z ∷ xs) q es ys a =
     rw (side-two (length xs)) (at (sideOf (length xs)) (grow-from P xs q es ys (all-right P z _ a)))
   where
@@ -97,7 +105,8 @@ grow-from P (x ∷ z ∷ xs) q es ys a =
 pub recorded-grow : {l : List ℕ} (xs : List (List ℕ)) (q es : List ℕ) (ys : List (List ℕ))
     → Recorded l (gain (sideOf (length xs)) es (receiving (xs ++ q ∷ ys))) → Recorded l (receiving (xs ++ (q ++ es) ∷ ys))
 recorded-grow xs q es ys r =
-    recorded-perm {xs = gain (sideOf (length xs)) es (receiving (xs ++ q ∷ ys))} {ys = receiving (xs ++ (q ++ es) ∷ ys)} (λ P. grow-to P xs q es ys) (λ P. grow-from P xs q es ys) r
+    recorded-perm {xs = gain (sideOf (length xs)) es (receiving (xs ++ q ∷ ys))} {ys = receiving (xs ++ (q ++ es) ∷ ys)}
+    (λ P. grow-to P xs q es ys) (λ P. grow-from P xs q es ys) r
 
 -- ---- stores
 
@@ -124,13 +133,18 @@ appended m cs k es os h l n a =
     let v = word (put m k (start es)) in
     let rest = es ++ (cs ++ os) in
     let p : Apart (k ∷ rest) = apart-perm (es ++ ((cs ++ k ∷ []) ++ os)) (k ∷ rest) (λ j. simp count-append (omega arith)) a in
-    let fr : All (Same w v) rest = stores-outside m k (start es) rest (all-map (Off k) (Outside k) (off-outside k k (omega arith) (omega arith)) rest (p .0)) in
+    let fr : All (Same w v) rest =
+    stores-outside m k (start es) rest (all-map (Off k) (Outside k) (off-outside k k (omega arith) (omega arith)) rest (p .0)) in
     let se = all-left (Same w v) es (cs ++ os) fr in
     let f1 = all-right (Same w v) es (cs ++ os) fr in
     let sc = all-left (Same w v) cs os f1 in
     let b : k ≤ 2044 = linked-right w cs (k ∷ []) l .0 in
     let at : v k ≡ start es = word-put-same m k (start es) h (omega arith) (start-lt w es n) in
-    let sk : Same3 w v k = (word-put-other m k (start es) (k + 1) (omega arith), word-put-other m k (start es) (k + 2) (omega arith), word-put-other m k (start es) (k + 3) (omega arith)) in
+    let sk : Same3 w v k = (
+      word-put-other m k (start es) (k + 1) (omega arith),
+      word-put-other m k (start es) (k + 2) (omega arith),
+      word-put-other m k (start es) (k + 3) (omega arith),
+    ) in
     record {
       linked = linked-join w v cs k es l (same-nexts w v cs sc) at (linked-same w v es (same-nexts w v es se) n);
       front = sc;

@@ -31,10 +31,12 @@ use Rattle.book.specs.HandOver.{Uses, recordedLength, takeOne, handOverStep, ta
 use Rattle.book.proofs.HandOverLaws.{taken-eq}
 use Rattle.chain.proofs.ChainLaws.{chain-eq}
 use Rattle.descriptor.proofs.RuleLaws.{sideAt-behind, ownFault-pass}
-use Rattle.queue.proofs.Queue.{start, All, Linked, Sole, Recorded, flat, receiving, Unmet, addAll, takeAll, ownAt, behindAt, Fresh, RoomAt, Roomy}
+use Rattle.queue.proofs.Queue.{start, All, Linked, Sole, Recorded, flat, receiving, Unmet, addAll, takeAll, ownAt, behindAt, Fresh}
+use Rattle.queue.proofs.Queue.{RoomAt, Roomy}
 use Rattle.queue.proofs.LinkLaws.{linked-small}
 use Rattle.queue.proofs.SoleLaws.{sole-apart, apart-left}
-use Rattle.queue.proofs.RecordLaws.{None, apart-receiving-behind, gain, take-words, sole-add-all, take-other, take-there, recorded-take}
+use Rattle.queue.proofs.RecordLaws.{None, apart-receiving-behind, gain, take-words, sole-add-all, take-other, take-there}
+use Rattle.queue.proofs.RecordLaws.{recorded-take}
 use Rattle.queue.proofs.FreshLaws.{fresh-fits}
 
 -- ---- one descriptor without fault
@@ -58,7 +60,9 @@ fault-passed kinds w pl d e =
     let f = orElse-zero (sumFault pl (w (d + 2)) (w (d + 3))) _ (c .1) in
     record {
       own = ownFault-pass pl (w (d + 1)) (w (d + 2)) (w (d + 3)) (a .0) (b .0) (f .0);
-      room = room-free _ (want 15 (isFree (roomOf (sideAt pl) kinds (firstByte (sideAt pl) (w (d + 1)) (w (d + 2)) (w (d + 3))) (lengthOf (sideAt pl) (w (d + 2))))) 0 (c .0) .0);
+      room = room-free _ (want 15
+          (isFree (roomOf (sideAt pl) kinds (firstByte (sideAt pl) (w (d + 1)) (w (d + 2)) (w (d + 3)))
+          (lengthOf (sideAt pl) (w (d + 2))))) 0 (c .0) .0);
       next = f .1;
     }
 
@@ -84,7 +88,8 @@ found : (n : ℕ) (kinds : List ℕ) (w : ℕ → ℕ) (pl : Place) (met : List 
 unfolding judgeStep
 found zero kinds w pl met p at out l e = absurd (omega arith)
 found (suc n) kinds w pl met p at out l e =
-    by (goodPtr p) (freeAt met d) (eqb (descFault kinds w pl d) 0) (eqb (w d) 0) refl refl refl refl (sym (chain-eq kinds w pl met p) ∙ e) (λ q x r. found n kinds w q x r at out)
+    by (goodPtr p) (freeAt met d) (eqb (descFault kinds w pl d) 0) (eqb (w d) 0) refl refl refl refl (sym (chain-eq kinds w pl met p) ∙ e)
+    (λ q x r. found n kinds w q x r at out)
   where
     d : ℕ
     d = wordOf p
@@ -93,8 +98,12 @@ found (suc n) kinds w pl met p at out l e =
     num e = ap (λ (t : JOut). t .0) e
 
     by : (a b c z : Bool) → goodPtr p ≡ a → freeAt met d ≡ b → eqb (descFault kinds w pl d) 0 ≡ c → eqb (w d) 0 ≡ z
-        → after {S = JSt} {R = JOut} (pick a (pick b (pick c (pick z (stop (0, 0, addFour met d)) (go (behindAt w pl d, addFour met d, w d))) (stop (descFault kinds w pl d, p, met))) (stop (13, p, met))) (stop (12, p, met))) (λ t. chainOf kinds w (t .0) (t .1) (t .2)) ≡ (0, at, out)
-        → ((q : Place) (x : List ℕ) (r : ℕ) → freeCount x < n → chainOf kinds w q x r ≡ (0, at, out) → Judged kinds w q x r out) → Judged kinds w pl met p out
+        → after {S = JSt} {R = JOut}
+        (pick a (pick b (pick c (pick z (stop (0, 0, addFour met d)) (go (behindAt w pl d, addFour met d, w d)))
+        (stop (descFault kinds w pl d, p, met))) (stop (13, p, met))) (stop (12, p, met))) (λ t. chainOf kinds w (t .0) (t .1) (t .2))
+        ≡ (0, at, out)
+        → ((q : Place) (x : List ℕ) (r : ℕ) → freeCount x < n → chainOf kinds w q x r ≡ (0, at, out) → Judged kinds w q x r out)
+        → Judged kinds w pl met p out
     by false b c z g f k o h ih = absurd (omega (arith, num h))
     by true false c z g f k o h ih = absurd (omega (arith, num h))
     by true true false z g f k o h ih = absurd (eqb-false _ _ k (num h))
@@ -138,7 +147,8 @@ take-words1 : (side : Side) (x2 : ℕ) (u : Uses) (d : ℕ) → takeOne side x2 
 unfolding takeOne
 take-words1 side x2 u d = refl
 
-pub taken-list : (w : ℕ → ℕ) (side : Side) (u : Uses) (ds : List ℕ) → Linked w ds → Unmet (u .0) ds → takenFrom w side u (start ds) ≡ takeAll w side u ds
+pub taken-list : (w : ℕ → ℕ) (side : Side) (u : Uses) (ds : List ℕ) → Linked w ds → Unmet (u .0) ds
+    → takenFrom w side u (start ds) ≡ takeAll w side u ds
 unfolding handOverStep
 taken-list w side u [] l f = taken-eq w side u 0 ∙ rw goodPtr-zero refl
 taken-list w side u (d ∷ ds) l f =
@@ -169,7 +179,8 @@ list-taken w pl u qs ds l f g s r =
       others = take-other w (sideAt pl) u ds;
     })
 
-pub judged-taken : (kinds : List ℕ) (w : ℕ → ℕ) (pl : Place) (u : Uses) (p : ℕ) (out : List ℕ) (qs : List (List ℕ)) (j : Judged kinds w pl (u .0) p out)
+pub judged-taken : (kinds : List ℕ) (w : ℕ → ℕ) (pl : Place) (u : Uses) (p : ℕ) (out : List ℕ) (qs : List (List ℕ))
+    (j : Judged kinds w pl (u .0) p out)
     → Sole (u .0) (flat qs) → Recorded (u .1) (receiving qs) → Taken w (sideAt pl) u (takenFrom w (sideAt pl) u p) qs (j .ds)
 judged-taken kinds w pl u p out qs j s r =
     rw (j .begins) (list-taken w pl u qs (j .ds) (j .linked) (j .unmet) (j .fresh) s r)

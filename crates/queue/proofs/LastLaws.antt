@@ -34,7 +34,8 @@ start-good : (w : ℕ → ℕ) (xs : List ℕ) (d : ℕ) → Linked w (xs ++ d �
 start-good w [] d l = goodPtr-addr d (l .0)
 start-good w (x ∷ xs) d l = goodPtr-addr x (l .0)
 
-pub last-from : (w : ℕ → ℕ) (n : ℕ) (xs : List ℕ) (d : ℕ) → Linked w (xs ++ d ∷ []) → length xs ≤ n → lastFrom w n (start (xs ++ d ∷ [])) ≡ addr d
+pub last-from : (w : ℕ → ℕ) (n : ℕ) (xs : List ℕ) (d : ℕ) → Linked w (xs ++ d ∷ []) → length xs ≤ n
+    → lastFrom w n (start (xs ++ d ∷ [])) ≡ addr d
 last-from w zero [] d l h = refl
 last-from w (suc n) [] d l h = rw (wordOf-addr d, l .1, goodPtr-zero) refl
 last-from w zero (x ∷ xs) d l h = absurd (omega arith)
@@ -95,10 +96,12 @@ tail-from : (w : ℕ → ℕ) (k n : ℕ) (hs : List ℕ) (q : ℕ) → tailIn w
 tail-from w k n [] q e = let z : _≡_ {A = ℕ} 0 1 = cc in absurd (omega arith)
 tail-from w k n (h ∷ hs) q e = at (isLast w h k) refl e (tail-from w k (n + 1) hs q)
   where
-    at : (b : Bool) → isLast w h k ≡ b → pick b (Of n) (tailIn w k (n + 1) hs) ≡ Of q → (tailIn w k (n + 1) hs ≡ Of q → Found w k (n + 1) hs q)
+    at : (b : Bool) → isLast w h k ≡ b → pick b (Of n) (tailIn w k (n + 1) hs) ≡ Of q
+        → (tailIn w k (n + 1) hs ≡ Of q → Found w k (n + 1) hs q)
         → Found w k n (h ∷ hs) q
     at true t e f = let z : q ≡ n = cc in record { past = 0; number = omega arith; few = omega arith; last = t }
-    at false t e f = let r = f e in record { past = suc (r .past); number = omega (arith, r .number); few = omega (arith, r .few); last = r .last }
+    at false t e f = let r = f e in
+        record { past = suc (r .past); number = omega (arith, r .number); few = omega (arith, r .few); last = r .last }
 
 pub tail-yes : (w : ℕ → ℕ) (k : ℕ) (hs : List ℕ) (q : ℕ) → tailIn w k 0 hs ≡ Of q → (q < length hs) × (isLast w (getD hs q 0) k ≡ true)
 tail-yes w k hs q e =

@@ -132,7 +132,8 @@ pub drop-entry : (u : Uses) (cs : List ℕ) (k : ℕ) → (getD (dropAll u cs .1
 drop-entry u [] k = inr tt
 drop-entry u (c ∷ cs) k = at (none-or k c) (drop-entry (dropOne u c) cs k)
   where
-    at : (k ≡ c) ⊎ (k ≢ c) → (getD (dropAll (dropOne u c) cs .1) k 0 ≡ 0) ⊎ None k cs → (getD (dropAll (dropOne u c) cs .1) k 0 ≡ 0) ⊎ None k (c ∷ cs)
+    at : (k ≡ c) ⊎ (k ≢ c) → (getD (dropAll (dropOne u c) cs .1) k 0 ≡ 0) ⊎ None k cs
+        → (getD (dropAll (dropOne u c) cs .1) k 0 ≡ 0) ⊎ None k (c ∷ cs)
     at (inl e) r = inl (drop-zero (dropOne u c) cs k (rw (drop-one u c, e) (set-zero (u .1) c)))
     at (inr n) (inl h) = inl h
     at (inr n) (inr h) = inr (n, h)
@@ -173,7 +174,8 @@ sole-add-all u [] cs f s = s
 sole-add-all u (d ∷ ds) cs f s =
     sole-perm (λ k. simp count-append (omega arith)) (sole-add-all (addFour u d) ds (d ∷ cs) (f .1) (sole-add d cs (f .0) s))
 
-pub take-other : (w : ℕ → ℕ) (side : Side) (u : Uses) (ds : List ℕ) (k : ℕ) → None k ds → getD (takeAll w side u ds .1) k 0 ≡ getD (u .1) k 0
+pub take-other : (w : ℕ → ℕ) (side : Side) (u : Uses) (ds : List ℕ) (k : ℕ) → None k ds
+    → getD (takeAll w side u ds .1) k 0 ≡ getD (u .1) k 0
 take-other w side u [] k n = refl
 take-other w side u (d ∷ ds) k n =
     take-other w side (takeOne side (w (d + 2)) u d) ds k (n .1)
@@ -194,12 +196,14 @@ all-back : (P : ℕ → Type 0) (d : ℕ) (xs ys : List ℕ) → P d × All P (x
 all-back P d [] ys a = a
 all-back P d (x ∷ xs) ys a = (a .1 .0, all-back P d xs ys (a .0, a .1 .1))
 
-pub recorded-perm : {l xs ys : List ℕ} → ((P : ℕ → Type 0) → All P xs → All P ys) → ((P : ℕ → Type 0) → All P ys → All P xs) → Recorded l xs → Recorded l ys
+pub recorded-perm : {l xs ys : List ℕ} → ((P : ℕ → Type 0) → All P xs → All P ys) → ((P : ℕ → Type 0) → All P ys → All P xs)
+    → Recorded l xs → Recorded l ys
 recorded-perm {l} f g r =
     record { size = r .size; there = f (λ d. Fits (getD l d 0)) (r .there); elsewhere = λ k n. r .elsewhere k (g (λ d. k ≢ d) n) }
 
 pub recorded-shift : {l : List ℕ} (d : ℕ) (xs ys : List ℕ) → Recorded l (xs ++ d ∷ ys) → Recorded l (d ∷ xs ++ ys)
-recorded-shift d xs ys r = recorded-perm {xs = xs ++ d ∷ ys} {ys = d ∷ xs ++ ys} (λ P a. all-mid P d xs ys a) (λ P a. all-back P d xs ys a) r
+recorded-shift d xs ys r =
+    recorded-perm {xs = xs ++ d ∷ ys} {ys = d ∷ xs ++ ys} (λ P a. all-mid P d xs ys a) (λ P a. all-back P d xs ys a) r
 
 -- ---- the recorded lengths, once descriptors are taken
 
@@ -213,7 +217,8 @@ RecordFits Transmit x2 = Unit
 RecordFits Receive x2 = Fits (lengthOf Receive x2)
 
 -- a length stored where no receive descriptor of rx begins
-keeps : (l : List ℕ) (d x : ℕ) (rx : List ℕ) → All (λ e. e ≢ d) rx → All (λ e. Fits (getD l e 0)) rx → All (λ e. Fits (getD (set l d x) e 0)) rx
+keeps : (l : List ℕ) (d x : ℕ) (rx : List ℕ) → All (λ e. e ≢ d) rx → All (λ e. Fits (getD l e 0)) rx
+    → All (λ e. Fits (getD (set l d x) e 0)) rx
 keeps l d x [] n t = tt
 keeps l d x (e ∷ rx) n t = (rw (getD-set-other l d e x 0 (n .0)) (t .0), keeps l d x rx (n .1) (t .1))
 
@@ -231,7 +236,8 @@ record-rx {l} d x rx b f n r = record {
   elsewhere = λ k m. getD-set-other l d k x 0 (m .0) ∙ r .elsewhere k (m .1);
 }
 
-pub recorded-take : (w : ℕ → ℕ) (side : Side) (u : Uses) (ds rx : List ℕ) → All (λ d. d ≤ 2044) ds → Apart (ds ++ rx) → All (λ d. RecordFits side (w (d + 2))) ds
+pub recorded-take : (w : ℕ → ℕ) (side : Side) (u : Uses) (ds rx : List ℕ) → All (λ d. d ≤ 2044) ds → Apart (ds ++ rx)
+    → All (λ d. RecordFits side (w (d + 2))) ds
     → Recorded (u .1) rx → Recorded (takeAll w side u ds .1) (gain side ds rx)
 recorded-take w Transmit u [] rx b a f r = r
 recorded-take w Receive u [] rx b a f r = r
@@ -244,7 +250,8 @@ recorded-take w Transmit u (d ∷ ds) rx b a f r =
 recorded-take w Receive u (d ∷ ds) rx b a f r =
     recorded-shift d ds rx
     (recorded-take w Receive (takeOne Receive (w (d + 2)) u d) ds (d ∷ rx) (b .1) (apart-back d ds rx a) (f .1)
-    (rw (take-one Receive (w (d + 2)) u d) (record-rx d (lengthOf Receive (w (d + 2))) rx (b .0) (f .0) (ne-all rx (all-right (Off d) ds rx (a .0))) r)))
+    (rw (take-one Receive (w (d + 2)) u d)
+    (record-rx d (lengthOf Receive (w (d + 2))) rx (b .0) (f .0) (ne-all rx (all-right (Off d) ds rx (a .0))) r)))
   where
     ne-all : (es : List ℕ) → All (Off d) es → All (λ e. e ≢ d) es
     ne-all es o = all-map (Off d) (λ e. e ≢ d) (off-ne d) es o

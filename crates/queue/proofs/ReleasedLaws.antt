@@ -21,7 +21,8 @@ use Rattle.book.specs.declared.Plan.the-variants.{Keep, Drop}
 use Rattle.book.specs.HandOver.{Uses, dropOne}
 use Rattle.book.specs.Release.{plan, planned, releaseStep, releasedFrom, releasedAll}
 use Rattle.book.proofs.ReleaseLaws.{released-eq}
-use Rattle.queue.proofs.Queue.{start, All, Linked, LinkedAll, count, Sole, Recorded, flat, starts, receiving, carry, kept, gone, keptAll, goneAll, dropAll}
+use Rattle.queue.proofs.Queue.{start, All, Linked, LinkedAll, count, Sole, Recorded, flat, starts, receiving, carry, kept, gone}
+use Rattle.queue.proofs.Queue.{keptAll, goneAll, dropAll}
 use Rattle.queue.proofs.LinkLaws.{all-left, all-right, all-join}
 use Rattle.queue.proofs.SoleLaws.{count-append, sole-perm, sole-apart, sole-has}
 use Rattle.queue.proofs.KeptLaws.{gone-kept, kept-linked-all, kept-all-again, gone-all-again}
@@ -56,12 +57,14 @@ unfolding releasedAll
 all-cons w n h hs u p v ps x e f = rw e (rw f refl)
 
 -- what goes of all queues, and what is kept, are all
-pub gone-kept-count : (w : ℕ → ℕ) (n : Mode) (qs : List (List ℕ)) (k : ℕ) → count (flat qs) k ≡ count (goneAll w n qs ++ flat (keptAll w n qs)) k
+pub gone-kept-count : (w : ℕ → ℕ) (n : Mode) (qs : List (List ℕ)) (k : ℕ)
+    → count (flat qs) k ≡ count (goneAll w n qs ++ flat (keptAll w n qs)) k
 gone-kept-count w n [] k = refl
 gone-kept-count w n (q ∷ qs) k =
     let h = gone-kept-count w n qs k in
     let a = count-append (goneAll w n qs) (flat (keptAll w n qs)) k in
-    let b : count q k ≡ count (gone w n q) k + count (kept w n q) k = ap (λ (l : List ℕ). count l k) (sym (gone-kept w n q)) ∙ count-append (gone w n q) (kept w n q) k in
+    let b : count q k ≡ count (gone w n q) k + count (kept w n q) k = ap (λ (l : List ℕ). count l k) (sym (gone-kept w n q))
+    ∙ count-append (gone w n q) (kept w n q) k in
     simp count-append (omega arith)
 
 pub released-queues : (w : ℕ → ℕ) (n : Mode) (qs : List (List ℕ)) (rs : List ℕ) (u : Uses) → LinkedAll w qs → Sole (u .0) (flat qs ++ rs)
@@ -73,19 +76,22 @@ released-queues w n (q ∷ qs) rs u l s =
     let s1 : Sole (u .0) (q ++ (flat qs ++ rs)) = rw (append-assoc q (flat qs) rs) at s in
     let e = released-list w n q (flat qs ++ rs) u (l .0) s1 in
     let s2 : Sole (u .0) ((gq ++ kq) ++ (flat qs ++ rs)) = rw (gone-kept w n q) s1 in
-    let s3 : Sole (dropAll u gq .0) (kq ++ (flat qs ++ rs)) = sole-drop-all u gq (kq ++ (flat qs ++ rs)) (rw (append-assoc gq kq (flat qs ++ rs)) at s2) in
+    let s3 : Sole (dropAll u gq .0) (kq ++ (flat qs ++ rs)) =
+    sole-drop-all u gq (kq ++ (flat qs ++ rs)) (rw (append-assoc gq kq (flat qs ++ rs)) at s2) in
     let s4 : Sole (dropAll u gq .0) (flat qs ++ (rs ++ kq)) = sole-perm (λ k. simp count-append (omega arith)) s3 in
     all-cons w n (start q) (starts qs) u (start kq) (dropAll u gq) (starts (keptAll w n qs)) (dropAll u (goneAll w n (q ∷ qs))) e
     (rw (drop-append u gq (goneAll w n qs)) (released-queues w n qs (rs ++ kq) (dropAll u gq) (l .1) s4))
 
-pub released-sole : (w : ℕ → ℕ) (n : Mode) (qs : List (List ℕ)) (u : Uses) → Sole (u .0) (flat qs) → Sole (dropAll u (goneAll w n qs) .0) (flat (keptAll w n qs))
+pub released-sole : (w : ℕ → ℕ) (n : Mode) (qs : List (List ℕ)) (u : Uses) → Sole (u .0) (flat qs)
+    → Sole (dropAll u (goneAll w n qs) .0) (flat (keptAll w n qs))
 released-sole w n qs u s = sole-drop-all u (goneAll w n qs) (flat (keptAll w n qs)) (sole-perm (gone-kept-count w n qs) s)
 
 -- released once, a second release changes nothing
 pub released-again : (w : ℕ → ℕ) (n : Mode) (qs : List (List ℕ)) (u : Uses) → LinkedAll w qs → Sole (u .0) (flat qs)
     → releasedAll w Head (starts (keptAll w n qs)) (dropAll u (goneAll w n qs)) ≡ (starts (keptAll w n qs), dropAll u (goneAll w n qs))
 released-again w n qs u l s =
-    released-queues w Head (keptAll w n qs) [] (dropAll u (goneAll w n qs)) (kept-linked-all w n qs l) (rw (append-nil (flat (keptAll w n qs))) (released-sole w n qs u s))
+    released-queues w Head (keptAll w n qs) [] (dropAll u (goneAll w n qs)) (kept-linked-all w n qs l)
+    (rw (append-nil (flat (keptAll w n qs))) (released-sole w n qs u s))
     ∙ rw (kept-all-again w n qs, gone-all-again w n qs) refl
 
 -- ---- recorded lengths
@@ -100,12 +106,15 @@ receiving-kept P w n (t ∷ r ∷ qs) a =
     (receiving-kept P w n qs (all-right P r (receiving qs) a))
 
 -- and what is not gone and not kept is not of them
-receiving-none : (P : ℕ → Type 0) (w : ℕ → ℕ) (n : Mode) (qs : List (List ℕ)) → All P (goneAll w n qs) → All P (receiving (keptAll w n qs)) → All P (receiving qs)
+receiving-none : (P : ℕ → Type 0) (w : ℕ → ℕ) (n : Mode) (qs : List (List ℕ)) → All P (goneAll w n qs) → All P (receiving (keptAll w n qs))
+    → All P (receiving qs)
 receiving-none P w n [] a b = tt
 receiving-none P w n (t ∷ []) a b = tt
 receiving-none P w n (t ∷ r ∷ qs) a b =
     let a1 = all-right P (gone w n t) (gone w n r ++ goneAll w n qs) a in
-    let h : All P (gone w n r ++ kept w n r) = all-join P (gone w n r) (kept w n r) (all-left P (gone w n r) (goneAll w n qs) a1) (all-left P (kept w n r) (receiving (keptAll w n qs)) b) in
+    let h : All P (gone w n r ++ kept w n r) =
+    all-join P (gone w n r) (kept w n r) (all-left P (gone w n r) (goneAll w n qs) a1)
+    (all-left P (kept w n r) (receiving (keptAll w n qs)) b) in
     all-join P r (receiving qs) (rw (gone-kept w n r) at h)
     (receiving-none P w n qs (all-right P (gone w n r) (goneAll w n qs) a1) (all-right P (kept w n r) (receiving (keptAll w n qs)) b))
 

@@ -35,7 +35,8 @@ RoomNow kinds lens w d = roomOf Receive kinds (w (d + 1)) (getD lens d 0) ≡ Fr
 
 -- ---- words and lengths
 
-pub roomy-same3 : (kinds : List ℕ) (side : Side) (w v : ℕ → ℕ) (ds : List ℕ) → All (Same3 w v) ds → Roomy kinds side w ds → Roomy kinds side v ds
+pub roomy-same3 : (kinds : List ℕ) (side : Side) (w v : ℕ → ℕ) (ds : List ℕ) → All (Same3 w v) ds → Roomy kinds side w ds
+    → Roomy kinds side v ds
 roomy-same3 kinds side w v [] a r = tt
 roomy-same3 kinds side w v (d ∷ ds) a r = (rw (a .0 .0, a .0 .1, a .0 .2) (r .0), roomy-same3 kinds side w v ds (a .1) (r .1))
 
@@ -44,7 +45,8 @@ pub room-now-same : (kinds lens : List ℕ) (w v : ℕ → ℕ) (ds : List ℕ) 
 room-now-same kinds lens w v [] a r = tt
 room-now-same kinds lens w v (d ∷ ds) a r = (rw (a .0) (r .0), room-now-same kinds lens w v ds (a .1) (r .1))
 
-pub room-now-lengths : (kinds lens new : List ℕ) (w : ℕ → ℕ) (ds : List ℕ) → All (λ d. getD new d 0 ≡ getD lens d 0) ds → All (RoomNow kinds lens w) ds
+pub room-now-lengths : (kinds lens new : List ℕ) (w : ℕ → ℕ) (ds : List ℕ) → All (λ d. getD new d 0 ≡ getD lens d 0) ds
+    → All (RoomNow kinds lens w) ds
     → All (RoomNow kinds new w) ds
 room-now-lengths kinds lens new w [] a r = tt
 room-now-lengths kinds lens new w (d ∷ ds) a r = (rw (a .0) (r .0), room-now-lengths kinds lens new w ds (a .1) (r .1))
@@ -53,7 +55,8 @@ first-receive : (x1 x2 x3 : ℕ) → firstByte Receive x1 x2 x3 ≡ x1
 unfolding firstByte
 first-receive x1 x2 x3 = refl
 
-pub room-recorded : (kinds lens : List ℕ) (w : ℕ → ℕ) (ds : List ℕ) → Roomy kinds Receive w ds → All (λ d. getD lens d 0 ≡ lengthOf Receive (w (d + 2))) ds
+pub room-recorded : (kinds lens : List ℕ) (w : ℕ → ℕ) (ds : List ℕ) → Roomy kinds Receive w ds
+    → All (λ d. getD lens d 0 ≡ lengthOf Receive (w (d + 2))) ds
     → All (RoomNow kinds lens w) ds
 room-recorded kinds lens w [] a l = tt
 room-recorded kinds lens w (d ∷ ds) a l =
@@ -68,10 +71,12 @@ fresh-some w pl (d ∷ ds) f = (
   rw (sideAt-behind pl (w (d + 2)) (w (d + 3))) at (fresh-some w (behindAt w pl d) ds (f .1)),
 )
 
-pub roomy-kind : (kinds : List ℕ) (side : Side) (w : ℕ → ℕ) (b k : ℕ) (ds : List ℕ) → permits side k ≡ true → All (λ d. 1 ≤ lengthOf side (w (d + 2))) ds
+pub roomy-kind : (kinds : List ℕ) (side : Side) (w : ℕ → ℕ) (b k : ℕ) (ds : List ℕ) → permits side k ≡ true
+    → All (λ d. 1 ≤ lengthOf side (w (d + 2))) ds
     → Roomy kinds side w ds → Roomy (set kinds b k) side w ds
 roomy-kind kinds side w b k [] p o r = tt
-roomy-kind kinds side w b k (d ∷ ds) p o r = (room-set-permits side kinds _ _ b k (r .0) (o .0) p, roomy-kind kinds side w b k ds p (o .1) (r .1))
+roomy-kind kinds side w b k (d ∷ ds) p o r =
+    (room-set-permits side kinds _ _ b k (r .0) (o .0) p, roomy-kind kinds side w b k ds p (o .1) (r .1))
 
 -- no byte, no block
 touches-nothing : (b lo : ℕ) → touches b lo 0 ≡ false
@@ -79,7 +84,8 @@ unfolding touches
 touches-nothing b lo = refl
 
 -- where no entry from word i on is received
-none-received : (w : ℕ → ℕ) (b i : ℕ) (lens : List ℕ) → received w i lens b ≡ false → (k : ℕ) → touches b (w (i + k + 1)) (getD lens k 0) ≡ false
+none-received : (w : ℕ → ℕ) (b i : ℕ) (lens : List ℕ) → received w i lens b ≡ false → (k : ℕ)
+    → touches b (w (i + k + 1)) (getD lens k 0) ≡ false
 none-received w b i [] e k = touches-nothing b _
 none-received w b i (l ∷ ls) e zero = at (touches b (w (i + 1)) l) refl e
   where
@@ -94,7 +100,8 @@ none-received w b i (l ∷ ls) e (suc k) =
     at true h = clash refl h
     at false h = h
 
-pub unreceived : (w : ℕ → ℕ) (lens : List ℕ) (b : ℕ) → inReception w lens b ≡ false → (d : ℕ) → touches b (w (d + 1)) (getD lens d 0) ≡ false
+pub unreceived : (w : ℕ → ℕ) (lens : List ℕ) (b : ℕ) → inReception w lens b ≡ false → (d : ℕ)
+    → touches b (w (d + 1)) (getD lens d 0) ≡ false
 unfolding inReception
 unreceived w lens b e d = let z : 0 + d + 1 ≡ d + 1 = omega arith in rw z at (none-received w b 0 lens e d)
 

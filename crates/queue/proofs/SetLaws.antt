@@ -63,7 +63,8 @@ start-number [] q = refl
 start-number (x ∷ qs) zero = refl
 start-number (x ∷ qs) (suc q) = start-number qs q
 
-pub heads-starts : (hs : List ℕ) (qs : List (List ℕ)) → length hs ≡ length qs → ((q : ℕ) → q < length qs → getD hs q 0 ≡ start (queueAt qs q))
+pub heads-starts : (hs : List ℕ) (qs : List (List ℕ)) → length hs ≡ length qs
+    → ((q : ℕ) → q < length qs → getD hs q 0 ≡ start (queueAt qs q))
     → hs ≡ starts qs
 heads-starts hs qs l f =
     ext-getD 0 hs (starts qs) (l ∙ sym (length-starts qs)) (λ q h. f q (omega arith) ∙ sym (start-number qs q))

@@ -23,7 +23,8 @@ use borrow.Author.Tests.{le-leb, lt-ltb, leb-true, leb-false, ltb-true, ltb-fals
 use Rattle.layout.specs.Choice.{pick}
 use Rattle.layout.proofs.ChoiceLaws.{clash, both-left, both-right}
 use Rattle.words.specs.WordSet.{emptySet, has, freeAt, addFour, dropFour}
-use Rattle.words.proofs.SetLaws.{length-addFour, length-dropFour, length-emptySet, getD-emptySet, getD-addFour-in, getD-addFour-out, getD-dropFour-in, getD-dropFour-out, has-false, has-yes, freeAt-is, freeAt-none, freeAt-yes}
+use Rattle.words.proofs.SetLaws.{length-addFour, length-dropFour, length-emptySet, getD-emptySet, getD-addFour-in, getD-addFour-out}
+use Rattle.words.proofs.SetLaws.{getD-dropFour-in, getD-dropFour-out, has-false, has-yes, freeAt-is, freeAt-none, freeAt-yes}
 use Rattle.queue.proofs.Queue.{All, Off, Apart, Outside, within, count, Sole, flat}
 use Rattle.queue.proofs.LinkLaws.{all-left, all-right, all-join, all-mid}
 
@@ -69,7 +70,8 @@ pub count-outside : (k : ℕ) (ds : List ℕ) → count ds k ≡ 0 → All (Outs
 count-outside k [] e = tt
 count-outside k (d ∷ ds) e = at (within d k) refl e (count-outside k ds)
   where
-    at : (b : Bool) → within d k ≡ b → pick b 1 0 + count ds k ≡ 0 → (count ds k ≡ 0 → All (Outside k) ds) → Outside k d × All (Outside k) ds
+    at : (b : Bool) → within d k ≡ b → pick b 1 0 + count ds k ≡ 0 → (count ds k ≡ 0 → All (Outside k) ds)
+        → Outside k d × All (Outside k) ds
     at true q z ih = absurd (omega arith)
     at false q z ih = (within-false d k q, ih (omega arith))
 
@@ -221,7 +223,8 @@ sole-add {u} d ds f s = record {
     now : (k : ℕ) (b : Bool) → within d k ≡ b → getD (addFour u d) k 0 ≡ count (d ∷ ds) k
     now k true e =
         let i = within-true d k e in
-        getD-addFour-in u d k (freeAt-is u d f .0) (i .0) (i .1) ∙ sym (count-in d k ds (i .0) (i .1) ∙ ap (λ (n : ℕ). 1 + n) (none k (i .0) (i .1)))
+        getD-addFour-in u d k (freeAt-is u d f .0) (i .0) (i .1)
+        ∙ sym (count-in d k ds (i .0) (i .1) ∙ ap (λ (n : ℕ). 1 + n) (none k (i .0) (i .1)))
     now k false e =
         let o = within-false d k e in
         getD-addFour-out u d k o ∙ s .used k ∙ sym (count-out d k ds o)
@@ -245,5 +248,6 @@ pub flat-append : (xs ys : List (List ℕ)) → flat (xs ++ ys) ≡ flat xs ++ f
 flat-append [] ys = refl
 flat-append (x ∷ xs) ys = ap (λ (l : List ℕ). x ++ l) (flat-append xs ys) ∙ sym (append-assoc x (flat xs) (flat ys))
 
-pub sole-pull : {u : List ℕ} (xs : List (List ℕ)) (q : List ℕ) (ys : List (List ℕ)) → Sole u (flat (xs ++ q ∷ ys)) → Sole u (q ++ flat (xs ++ ys))
+pub sole-pull : {u : List ℕ} (xs : List (List ℕ)) (q : List ℕ) (ys : List (List ℕ)) → Sole u (flat (xs ++ q ∷ ys))
+    → Sole u (q ++ flat (xs ++ ys))
 sole-pull xs q ys s = sole-perm (λ k. simp (flat-append, count-append) (omega arith)) s

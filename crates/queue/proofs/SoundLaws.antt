@@ -23,8 +23,10 @@ use Rattle.layout.proofs.PointerLaws.{goodPtr-is, goodPtr-addr, wordOf-addr, go
 use Rattle.words.specs.WordSet.{emptySet, freeAt, addFour, freeCount}
 use Rattle.words.proofs.SetLaws.{freeCount-falls, getD-in, length-emptySet, getD-emptySet}
 use Rattle.book.proofs.SoundLaws.{walk-eq, firsts-eq}
-use Rattle.book.specs.Sound.{WSt, WOut, walkStep, walkFrom, walkAll, sameList, firstStep, firstsFrom, firstsAll, lengthFits, lengthsFit, sound}
-use Rattle.queue.proofs.Queue.{start, All, Linked, LinkedAll, Off, Apart, count, Sole, Recorded, flat, starts, receiving, Unmet, addAll}
+use Rattle.book.specs.Sound.{WSt, WOut, walkStep, walkFrom, walkAll, sameList, firstStep, firstsFrom, firstsAll, lengthFits, lengthsFit}
+use Rattle.book.specs.Sound.{sound}
+use Rattle.queue.proofs.Queue.{start, All, Linked, LinkedAll, Off, Apart, count, Sole, Recorded, flat, starts, receiving, Unmet}
+use Rattle.queue.proofs.Queue.{addAll}
 use Rattle.queue.proofs.LinkLaws.{all-left, all-right, all-join, all-map, all-every, linked-small}
 use Rattle.queue.proofs.SoleLaws.{count-append, sole-perm, sole-unique, sole-empty, sole-add, sole-free, sole-apart, off-ne}
 use Rattle.queue.proofs.RecordLaws.{Fits, None, none-or, receiving-all, apart-receiving, sole-add-all}
@@ -36,7 +38,8 @@ unfolding walkStep
 walk-yes w met [] l f = walk-eq w met 0
 walk-yes w met (d ∷ ds) l f =
     walk-eq w met (addr d)
-    ∙ simp (ne-eqb (addr d) 0 (λ z. omega (arith, z)), goodPtr-addr d (l .0), wordOf-addr d, f .0, l .1) (walk-yes w (addFour met d) ds (l .2) (f .1))
+    ∙ simp (ne-eqb (addr d) 0 (λ z. omega (arith, z)), goodPtr-addr d (l .0), wordOf-addr d, f .0, l .1)
+    (walk-yes w (addFour met d) ds (l .2) (f .1))
 
 pub record Walked (w : ℕ → ℕ) (met : List ℕ) (p : ℕ) (out : List ℕ) : Type 0 where
   pub ds : List ℕ
@@ -58,7 +61,9 @@ found (suc n) w met p out l e =
     ends e = ap (λ (t : WOut). t .0) e
 
     by : (z a b : Bool) → eqb p 0 ≡ z → goodPtr p ≡ a → freeAt met d ≡ b
-        → after {S = WSt} {R = WOut} (pick z (stop (true, met)) (pick a (pick b (go (addFour met d, w d)) (stop (false, met))) (stop (false, met)))) (λ t. walkFrom w (t .0) (t .1)) ≡ (true, out)
+        → after {S = WSt} {R = WOut}
+        (pick z (stop (true, met)) (pick a (pick b (go (addFour met d, w d)) (stop (false, met))) (stop (false, met))))
+        (λ t. walkFrom w (t .0) (t .1)) ≡ (true, out)
         → ((x : List ℕ) (q : ℕ) → freeCount x < n → walkFrom w x q ≡ (true, out) → Walked w x q out) → Walked w met p out
     by true a b z g f h ih =
         record { ds = []; begins = eqb-true _ _ z; linked = tt; unmet = tt; words = sym (ap (λ (t : WOut). t .1) h) }
@@ -119,7 +124,8 @@ pub sole-unmet : (u ds cs : List ℕ) → All (λ d. d ≤ 2044) ds → ((k : �
 sole-unmet u [] cs b c s = tt
 sole-unmet u (d ∷ ds) cs b c s = (
   f,
-  sole-unmet (addFour u d) ds (d ∷ cs) (b .1) (λ k. let z = c k in let y = count-append ds cs k in let x = count-append ds (d ∷ cs) k in omega arith) (sole-add d cs f s),
+  sole-unmet (addFour u d) ds (d ∷ cs) (b .1) (λ k. let z = c k in let y = count-append ds cs k in let x = count-append ds (d ∷ cs) k in
+      omega arith) (sole-add d cs f s),
 )
   where
     f : freeAt u d ≡ true
@@ -136,7 +142,8 @@ heads-walk w (q ∷ qs) u cs s l c =
     let f = sole-unmet u q cs (linked-small w q (l .0)) (λ k. few q (flat qs) cs k (c k)) s in
     let e = walk-yes w u q (l .0) f in
     let t = heads-walk w qs (addAll u q) (q ++ cs) (sole-add-all u q cs f s) (l .1) (λ k. rw (count-swap q (flat qs) cs k) at (c k)) in
-    rw (all-cons w (start q) (starts qs) u, e) (record { ends = t .ends; sole = sole-perm (λ k. sym (count-swap q (flat qs) cs k)) (t .sole) })
+    rw (all-cons w (start q) (starts qs) u, e)
+    (record { ends = t .ends; sole = sole-perm (λ k. sym (count-swap q (flat qs) cs k)) (t .sole) })
   where
     few : (q f cs : List ℕ) (k : ℕ) → count ((q ++ f) ++ cs) k ≤ 1 → count (q ++ cs) k ≤ 1
     few q f cs k h = let g = simp count-append at h in simp count-append (omega arith)
@@ -166,7 +173,8 @@ ones-other f (d ∷ ds) k n = ones-other (set f d 1) ds k (n .1) ∙ getD-set-ot
 ones-in : (f ds : List ℕ) → length f ≡ 2048 → All (λ d. d ≤ 2044) ds → Apart ds → All (λ d. getD (ones f ds) d 0 ≡ 1) ds
 ones-in f [] l b a = tt
 ones-in f (d ∷ ds) l b a = (
-  ones-other (set f d 1) ds d (all-map (Off d) (λ e. d ≢ e) (λ e o q. off-ne d e o (sym q)) ds (a .0)) ∙ getD-set-same f d 1 0 (omega arith),
+  ones-other (set f d 1) ds d (all-map (Off d) (λ e. d ≢ e) (λ e o q. off-ne d e o (sym q)) ds (a .0))
+      ∙ getD-set-same f d 1 0 (omega arith),
   ones-in (set f d 1) ds (length-set f d 1 ∙ l) (b .1) (a .1),
 )
 
@@ -186,7 +194,8 @@ firsts-one w f (d ∷ ds) l z =
     firsts-eq w f (addr d)
     ∙ simp (goodPtr-addr d (l .0), wordOf-addr d, eq-eqb (getD f d 1) 0 (z .0), l .1) (firsts-one w (set f d 1) ds (l .2) (z .1))
 
-firsts-list : (w : ℕ → ℕ) (qs : List (List ℕ)) (f : List ℕ) → LinkedAll w qs → length f ≡ 2048 → Apart (receiving qs) → All (λ d. getD f d 0 ≡ 0) (receiving qs)
+firsts-list : (w : ℕ → ℕ) (qs : List (List ℕ)) (f : List ℕ) → LinkedAll w qs → length f ≡ 2048 → Apart (receiving qs)
+    → All (λ d. getD f d 0 ≡ 0) (receiving qs)
     → firstsAll w (starts qs) f ≡ ones f (receiving qs)
 firsts-list w [] f l n a z = refl
 firsts-list w (t ∷ []) f l n a z = refl
@@ -212,7 +221,8 @@ firsts-list w (t ∷ r ∷ qs) f l n a z =
 
 -- ---- recorded lengths
 
-lengths-each : (fs ls : List ℕ) → lengthsFit fs ls ≡ true → (length fs ≡ length ls) × ((k : ℕ) → lengthFits (getD fs k 0) (getD ls k 0) ≡ true)
+lengths-each : (fs ls : List ℕ) → lengthsFit fs ls ≡ true
+    → (length fs ≡ length ls) × ((k : ℕ) → lengthFits (getD fs k 0) (getD ls k 0) ≡ true)
 lengths-each [] [] e = (refl, λ k. refl)
 lengths-each [] (l ∷ ls) e = clash e refl
 lengths-each (f ∷ fs) [] e = clash e refl
@@ -224,7 +234,8 @@ lengths-each (f ∷ fs) (l ∷ ls) e =
     at h zero = both-left (lengthFits f l) _ e
     at h (suc k) = h k
 
-each-lengths : (fs ls : List ℕ) → length fs ≡ length ls → ((k : ℕ) → lengthFits (getD fs k 0) (getD ls k 0) ≡ true) → lengthsFit fs ls ≡ true
+each-lengths : (fs ls : List ℕ) → length fs ≡ length ls → ((k : ℕ) → lengthFits (getD fs k 0) (getD ls k 0) ≡ true)
+    → lengthsFit fs ls ≡ true
 each-lengths [] [] e h = refl
 each-lengths [] (l ∷ ls) e h = absurd (omega arith)
 each-lengths (f ∷ fs) [] e h = absurd (omega arith)
@@ -250,19 +261,22 @@ lengths-recorded rx lens b a e =
     let r = lengths-each (ones emptySet rx) lens e in
     record {
       size = sym (r .0) ∙ ones-size emptySet rx ∙ length-emptySet;
-      there = all-map (λ d. getD (ones emptySet rx) d 0 ≡ 1) (λ d. Fits (getD lens d 0)) (λ d o. fits-at (getD lens d 0) (rw o at (r .1 d))) rx (ones-in emptySet rx length-emptySet b a);
+      there = all-map (λ d. getD (ones emptySet rx) d 0 ≡ 1) (λ d. Fits (getD lens d 0))
+          (λ d o. fits-at (getD lens d 0) (rw o at (r .1 d))) rx (ones-in emptySet rx length-emptySet b a);
       elsewhere = λ k n. eqb-true (getD lens k 0) 0 (rw (ones-other emptySet rx k n ∙ getD-emptySet k) at (r .1 k));
     }
 
 recorded-lengths : (rx lens : List ℕ) → All (λ d. d ≤ 2044) rx → Apart rx → Recorded lens rx → lengthsFit (ones emptySet rx) lens ≡ true
 recorded-lengths rx lens b a r =
     each-lengths (ones emptySet rx) lens (ones-size emptySet rx ∙ length-emptySet ∙ sym (r .size))
-    (λ k. member-case (λ d. Fits (getD lens d 0) × (getD (ones emptySet rx) d 0 ≡ 1)) (lengthFits (getD (ones emptySet rx) k 0) (getD lens k 0) ≡ true) k rx
+    (λ k. member-case (λ d. Fits (getD lens d 0) × (getD (ones emptySet rx) d 0 ≡ 1))
+    (lengthFits (getD (ones emptySet rx) k 0) (getD lens k 0) ≡ true) k rx
     (zip rx (r .there) (ones-in emptySet rx length-emptySet b a))
     (λ n. rw (ones-other emptySet rx k n ∙ getD-emptySet k) (eq-eqb (getD lens k 0) 0 (r .elsewhere k n)))
     (λ h. rw (h .1) (at-fits (getD lens k 0) (h .0))))
   where
-    zip : (es : List ℕ) → All (λ d. Fits (getD lens d 0)) es → All (λ d. getD (ones emptySet rx) d 0 ≡ 1) es → All (λ d. Fits (getD lens d 0) × (getD (ones emptySet rx) d 0 ≡ 1)) es
+    zip : (es : List ℕ) → All (λ d. Fits (getD lens d 0)) es → All (λ d. getD (ones emptySet rx) d 0 ≡ 1) es
+        → All (λ d. Fits (getD lens d 0) × (getD (ones emptySet rx) d 0 ≡ 1)) es
     zip [] x y = tt
     zip (e ∷ es) x y = ((x .0, y .0), zip es (x .1) (y .1))
 
@@ -291,11 +305,13 @@ pub linked-all-small : (w : ℕ → ℕ) (qs : List (List ℕ)) → LinkedAll w 
 linked-all-small w [] l = tt
 linked-all-small w (q ∷ qs) l = all-join _ q (flat qs) (linked-small w q (l .0)) (linked-all-small w qs (l .1))
 
-firsts-ones : (w : ℕ → ℕ) (qs : List (List ℕ)) → LinkedAll w qs → Apart (receiving qs) → firstsAll w (starts qs) emptySet ≡ ones emptySet (receiving qs)
+firsts-ones : (w : ℕ → ℕ) (qs : List (List ℕ)) → LinkedAll w qs → Apart (receiving qs)
+    → firstsAll w (starts qs) emptySet ≡ ones emptySet (receiving qs)
 firsts-ones w qs l a =
     firsts-list w qs emptySet l length-emptySet a (all-every (λ d. getD emptySet d 0 ≡ 0) getD-emptySet (receiving qs))
 
-pub sound-yes : (w : ℕ → ℕ) (qs : List (List ℕ)) (used lens : List ℕ) → LinkedAll w qs → Sole used (flat qs) → Recorded lens (receiving qs) → sound w (starts qs) used lens ≡ true
+pub sound-yes : (w : ℕ → ℕ) (qs : List (List ℕ)) (used lens : List ℕ) → LinkedAll w qs → Sole used (flat qs) → Recorded lens (receiving qs)
+    → sound w (starts qs) used lens ≡ true
 unfolding sound
 sound-yes w qs used lens l s r =
     let t = heads-walk w qs emptySet [] sole-empty l (λ k. rw (append-nil (flat qs)) (s .once k)) in
@@ -312,10 +328,12 @@ sound-queues w hs used lens e =
     let f : lengthsFit (firstsAll w hs emptySet) lens ≡ true = both-right (sameList (walkAll w hs emptySet .1) used) _ c in
     made (walk-heads w hs emptySet [] sole-empty (both-left (walkAll w hs emptySet .0) _ e)) u f
   where
-    made : Heads w hs [] (walkAll w hs emptySet .1) → walkAll w hs emptySet .1 ≡ used → lengthsFit (firstsAll w hs emptySet) lens ≡ true → Queues w hs used lens
+    made : Heads w hs [] (walkAll w hs emptySet .1) → walkAll w hs emptySet .1 ≡ used → lengthsFit (firstsAll w hs emptySet) lens ≡ true
+        → Queues w hs used lens
     made h u f =
         let s : Sole used (flat (h .qs)) = rw (append-nil (flat (h .qs))) at (rw u at (h .sole)) in
         let a = apart-receiving (h .qs) (sole-apart s) in
         let b = receiving-all _ (h .qs) (linked-all-small w (h .qs) (h .linked)) in
-        let g : lengthsFit (ones emptySet (receiving (h .qs))) lens ≡ true = rw (firsts-ones w (h .qs) (h .linked) a) at (rw (h .heads) at f) in
+        let g : lengthsFit (ones emptySet (receiving (h .qs))) lens ≡ true =
+        rw (firsts-ones w (h .qs) (h .linked) a) at (rw (h .heads) at f) in
         record { qs = h .qs; heads = h .heads; linked = h .linked; sole = s; recorded = lengths-recorded (receiving (h .qs)) lens b a g }

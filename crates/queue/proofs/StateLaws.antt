@@ -23,9 +23,13 @@ use Rattle.layout.specs.Layout.{queues}
 use Rattle.layout.proofs.ChoiceLaws.{clash}
 use Rattle.layout.proofs.BitLaws.{bit-clearBit-same, bit-clearBit-other, clearBit-lt, bits-same}
 use Rattle.words.specs.Word.{word}
-use Rattle.registers.specs.Table.{stateWords, cpAt, marksAt, tearingAt, resetAt, bitAt, headOf, cpOf, marksOf, tearingsOf, tearingOf, resetOf, bitOf, headsOf, cpsOf, setMarks, setTearings, setReset, unmarked, flagsFit, isDevice}
+use Rattle.registers.specs.Table.{stateWords, cpAt, marksAt, tearingAt, resetAt, bitAt, headOf, cpOf, marksOf, tearingsOf, tearingOf}
+use Rattle.registers.specs.Table.{resetOf, bitOf, headsOf, cpsOf, setMarks, setTearings, setReset, unmarked, flagsFit, isDevice}
 use Rattle.registers.specs.Rules.{teardownDone}
-use Rattle.registers.proofs.TableLaws.{getD-headsOf, getD-cpsOf, length-setTearings, tearingsOf-setTearings, marksOf-setTearings, resetOf-setTearings, bitOf-setTearings, headsOf-setTearings, cpsOf-setTearings, length-unmarked, marksOf-unmarked, resetOf-unmarked, tearingsOf-unmarked, headsOf-unmarked, cpsOf-unmarked, flagsFit-bounds, flagsFit-setTearings, flagsFit-unmarked}
+use Rattle.registers.proofs.TableLaws.{getD-headsOf, getD-cpsOf, length-setTearings, tearingsOf-setTearings, marksOf-setTearings}
+use Rattle.registers.proofs.TableLaws.{resetOf-setTearings, bitOf-setTearings, headsOf-setTearings, cpsOf-setTearings, length-unmarked}
+use Rattle.registers.proofs.TableLaws.{marksOf-unmarked, resetOf-unmarked, tearingsOf-unmarked, headsOf-unmarked, cpsOf-unmarked}
+use Rattle.registers.proofs.TableLaws.{flagsFit-bounds, flagsFit-setTearings, flagsFit-unmarked}
 use Rattle.book.specs.HandOver.{Uses}
 use Rattle.book.specs.Release.{releasedAll, resetOver, settled, releasedFlags, releaseMode, withHeads, releasedHeads, releasedBook}
 use Rattle.book.specs.World.{World, setState, setUses, release}
@@ -45,10 +49,12 @@ settled-below mask q [] j h = refl
 settled-below mask q (c ∷ cs) j h =
     settled-below (pick (eqb c teardownDone) (clearBit q mask) mask) (q + 1) cs j (omega arith) ∙ one-settled mask q c j (λ e. omega arith)
 
-settled-from : (mask q : ℕ) (cs : List ℕ) (i : ℕ) → bit (q + i) (settled mask q cs) ≡ pick (eqb (getD cs i 0) teardownDone) false (bit (q + i) mask)
+settled-from : (mask q : ℕ) (cs : List ℕ) (i : ℕ)
+    → bit (q + i) (settled mask q cs) ≡ pick (eqb (getD cs i 0) teardownDone) false (bit (q + i) mask)
 settled-from mask q [] i = refl
 settled-from mask q (c ∷ cs) zero =
-    settled-below (pick (eqb c teardownDone) (clearBit q mask) mask) (q + 1) cs (q + 0) (omega arith) ∙ rw (add-zero q) (at (eqb c teardownDone))
+    settled-below (pick (eqb c teardownDone) (clearBit q mask) mask) (q + 1) cs (q + 0) (omega arith)
+    ∙ rw (add-zero q) (at (eqb c teardownDone))
   where
     at : (t : Bool) → bit q (pick t (clearBit q mask) mask) ≡ pick t false (bit q mask)
     at true = bit-clearBit-same q mask
@@ -104,7 +110,11 @@ module _ (hs t : List ℕ) (many : length hs ≡ length (headsOf t)) where
 
   pub fit-withHeads : flagsFit (withHeads hs t) ≡ flagsFit t
   unfolding flagsFit
-  fit-withHeads = rw (withHeads-other marksAt (omega arith), withHeads-other tearingAt (omega arith), withHeads-other resetAt (omega arith)) refl
+  fit-withHeads = rw (
+    withHeads-other marksAt (omega arith),
+    withHeads-other tearingAt (omega arith),
+    withHeads-other resetAt (omega arith),
+  ) refl
 
 -- words that agree
 over-same : (t u : List ℕ) → getD t resetAt 0 ≡ getD u resetAt 0 → getD t bitAt 0 ≡ getD u bitAt 0 → resetOver t ≡ resetOver u
@@ -214,7 +224,8 @@ pub cps-flags : (t : List ℕ) → cpsOf (releasedFlags t) ≡ cpsOf t
 cps-flags t = flags-case t (λ r. cpsOf r ≡ cpsOf t) (λ e. cpsOf-unmarked (ended t) ∙ cpsOf-setTearings t _) (λ e. cpsOf-setTearings t _)
 
 -- the teardowns that are left are not over
-pub tearings-flags : (t : List ℕ) → tearingsOf t < 2 ^ queues → settled (tearingsOf (releasedFlags t)) 0 (cpsOf t) ≡ tearingsOf (releasedFlags t)
+pub tearings-flags : (t : List ℕ) → tearingsOf t < 2 ^ queues
+    → settled (tearingsOf (releasedFlags t)) 0 (cpsOf t) ≡ tearingsOf (releasedFlags t)
 tearings-flags t h =
     flags-case t (λ r. settled (tearingsOf r) 0 (cpsOf t) ≡ tearingsOf r) (λ e. rw (tearingsOf-unmarked (ended t)) left) (λ e. left)
   where
@@ -249,7 +260,8 @@ settles hs t many l fit =
       size = length-flags x ∙ lx;
       fit = flags-fit x (fit-withHeads hs t many ∙ fit);
       heads = λ q h. flags-other x q (λ e. omega arith) (λ e. omega arith) (λ e. omega arith) ∙ headOf-withHeads hs t many q h;
-      device = λ k d. flags-other x k (λ e. clash d (ap isDevice e)) (λ e. clash d (ap isDevice e)) (λ e. clash d (ap isDevice e)) ∙ rest k (past k d);
+      device = λ k d. flags-other x k (λ e. clash d (ap isDevice e)) (λ e. clash d (ap isDevice e)) (λ e. clash d (ap isDevice e))
+          ∙ rest k (past k d);
       marks = marks-flags x lx ∙ rw (o, rest marksAt (omega arith)) refl;
       reset = reset-flags x lx ∙ rw (o, reset-same x t (rest resetAt (omega arith))) refl;
       tearing = λ q h. tearing-flags x lx q h ∙ rw (rest (cpAt q) (omega arith), rest tearingAt (omega arith)) refl;
@@ -265,7 +277,8 @@ settles hs t many l fit =
 
 -- ---- a whole release
 
-pub release-parts : (s : World) (hs : List ℕ) (u : Uses) → releasedAll (word (s .mem)) (releaseMode (s .state)) (headsOf (s .state)) (s .used, s .lens) ≡ (hs, u)
+pub release-parts : (s : World) (hs : List ℕ) (u : Uses)
+    → releasedAll (word (s .mem)) (releaseMode (s .state)) (headsOf (s .state)) (s .used, s .lens) ≡ (hs, u)
     → release s ≡ setState (releasedFlags (withHeads hs (s .state))) (setUses u s)
 unfolding release releasedBook releasedHeads
 release-parts s hs u e = ap (λ (x : List ℕ × Uses). setState (releasedFlags (withHeads (x .0) (s .state))) (setUses (x .1) s)) e

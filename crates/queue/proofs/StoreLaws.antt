@@ -50,10 +50,18 @@ linked-all-same w v (q ∷ qs) a l = (
 -- ---- a store of any word
 
 pub store-outside : (m : List ℕ) (k x d : ℕ) → Outside k d → Same (word m) (word (put m k x)) d
-store-outside m k x d (inl h) =
-    (word-put-other m k x d (omega arith), word-put-other m k x (d + 1) (omega arith), word-put-other m k x (d + 2) (omega arith), word-put-other m k x (d + 3) (omega arith))
-store-outside m k x d (inr h) =
-    (word-put-other m k x d (omega arith), word-put-other m k x (d + 1) (omega arith), word-put-other m k x (d + 2) (omega arith), word-put-other m k x (d + 3) (omega arith))
+store-outside m k x d (inl h) = (
+  word-put-other m k x d (omega arith),
+  word-put-other m k x (d + 1) (omega arith),
+  word-put-other m k x (d + 2) (omega arith),
+  word-put-other m k x (d + 3) (omega arith),
+)
+store-outside m k x d (inr h) = (
+  word-put-other m k x d (omega arith),
+  word-put-other m k x (d + 1) (omega arith),
+  word-put-other m k x (d + 2) (omega arith),
+  word-put-other m k x (d + 3) (omega arith),
+)
 
 pub stores-outside : (m : List ℕ) (k x : ℕ) (ds : List ℕ) → All (Outside k) ds → All (Same (word m) (word (put m k x))) ds
 stores-outside m k x ds a = all-map (Outside k) (Same (word m) (word (put m k x))) (store-outside m k x) ds a
@@ -81,10 +89,18 @@ last-marked-only here latched d m k a b =
     word-put-other (put m (d + 2) _) (d + 3) _ k b ∙ word-put-other m (d + 2) _ k a
 
 pub only-off : (d : ℕ) (w v : ℕ → ℕ) → Only d w v → (e : ℕ) → Off d e → Same w v e
-only-off d w v o e (inl h) =
-    (o e (omega arith) (omega arith), o (e + 1) (omega arith) (omega arith), o (e + 2) (omega arith) (omega arith), o (e + 3) (omega arith) (omega arith))
-only-off d w v o e (inr h) =
-    (o e (omega arith) (omega arith), o (e + 1) (omega arith) (omega arith), o (e + 2) (omega arith) (omega arith), o (e + 3) (omega arith) (omega arith))
+only-off d w v o e (inl h) = (
+  o e (omega arith) (omega arith),
+  o (e + 1) (omega arith) (omega arith),
+  o (e + 2) (omega arith) (omega arith),
+  o (e + 3) (omega arith) (omega arith),
+)
+only-off d w v o e (inr h) = (
+  o e (omega arith) (omega arith),
+  o (e + 1) (omega arith) (omega arith),
+  o (e + 2) (omega arith) (omega arith),
+  o (e + 3) (omega arith) (omega arith),
+)
 
 -- q is the queue, cs, d and rs what the release leaves of it, os the descriptors of all other queues
 pub record Change (w v : ℕ → ℕ) (n : Mode) (q cs : List ℕ) (d : ℕ) (rs os : List ℕ) : Type 0 where
@@ -102,7 +118,8 @@ change w v n q cs d rs os o e a =
     let whole : g ++ (cs ++ d ∷ rs) ≡ q = rw (← e) (gone-kept w n q) in
     let a0 : Apart ((g ++ (cs ++ d ∷ rs)) ++ os) = rw whole a in
     let a1 : Apart ((g ++ cs) ++ d ∷ (rs ++ os)) = rw (regroup g cs (d ∷ rs) os) at a0 in
-    let fr : All (Same w v) ((g ++ cs) ++ (rs ++ os)) = all-map (Off d) (Same w v) (only-off d w v o) ((g ++ cs) ++ (rs ++ os)) (apart-shift d (g ++ cs) (rs ++ os) a1 .0) in
+    let fr : All (Same w v) ((g ++ cs) ++ (rs ++ os)) =
+    all-map (Off d) (Same w v) (only-off d w v o) ((g ++ cs) ++ (rs ++ os)) (apart-shift d (g ++ cs) (rs ++ os) a1 .0) in
     let front = all-left (Same w v) (g ++ cs) (rs ++ os) fr in
     let back = all-right (Same w v) (g ++ cs) (rs ++ os) fr in
     let sg = all-left (Same w v) g cs front in

@@ -17,10 +17,13 @@ use lib.Dec.{eqb, ltb, leb}
 use borrow.Author.Tests.{eq-eqb, ne-eqb, lt-ltb, le-ltb, le-leb, lt-leb, eqb-true, eqb-false, ltb-true}
 use Rattle.layout.specs.Choice.{pick, both}
 use Rattle.layout.specs.Layout.{channels, queues}
-use Rattle.layout.specs.Class.{hdpClass, cpClass, teardownClass, resetClass, controlClass, offsetClass, passedClass, unofferedClass, unguardedClass}
+use Rattle.layout.specs.Class.{hdpClass, cpClass, teardownClass, resetClass, controlClass, offsetClass, passedClass, unofferedClass}
+use Rattle.layout.specs.Class.{unguardedClass}
 use Rattle.layout.proofs.ChoiceLaws.{pick-same, want, shun}
 use Rattle.registers.specs.Table.{cpOf, awaiting, setMark, setHdp, setCp, setTearing}
-use Rattle.registers.specs.Rules.{teardownDone, byClass, zeroingFault, headFault, ackFault, teardownFault, resetFault, zeroFault, tearQueue, headNumber, teardownNumber, resetNumber, registerFault, headWritten, ackWritten, resetWritten, written}
+use Rattle.registers.specs.Rules.{teardownDone, byClass, zeroingFault, headFault, ackFault, teardownFault, resetFault, zeroFault}
+use Rattle.registers.specs.Rules.{tearQueue, headNumber, teardownNumber, resetNumber, registerFault, headWritten, ackWritten}
+use Rattle.registers.specs.Rules.{resetWritten, written}
 
 -- ---- by class number
 

@@ -27,8 +27,12 @@ use Rattle.layout.specs.Choice.{pick}
 use Rattle.layout.specs.Bits.{bit, clearBit}
 use Rattle.layout.specs.Layout.{queues, marks}
 use Rattle.layout.proofs.ChoiceLaws.{both-left, both-right, clash}
-use Rattle.layout.proofs.BitLaws.{bit-zero, bit-suc, bit-setBit-same, bit-setBit-other, bit-clearBit-same, bit-clearBit-other, clear-case, setBit-lt, clearBit-lt, bits-same}
-use Rattle.registers.specs.Table.{stateWords, hdpAt, cpAt, marksAt, tearingAt, resetAt, bitAt, headOf, hdpOf, cpOf, marksOf, tearingsOf, tearingOf, allMarks, awaiting, anyTearing, resetOf, bitOf, setHead, setHdp, setCp, setMarks, setMark, setTearings, setTearing, clearTearing, setReset, setResetBit, unmarked, headsOf, cpsOf, flagsFit, isDevice, loadedFrom, loaded}
+use Rattle.layout.proofs.BitLaws.{bit-zero, bit-suc, bit-setBit-same, bit-setBit-other, bit-clearBit-same, bit-clearBit-other, clear-case}
+use Rattle.layout.proofs.BitLaws.{setBit-lt, clearBit-lt, bits-same}
+use Rattle.registers.specs.Table.{stateWords, hdpAt, cpAt, marksAt, tearingAt, resetAt, bitAt, headOf, hdpOf, cpOf, marksOf}
+use Rattle.registers.specs.Table.{tearingsOf, tearingOf, allMarks, awaiting, anyTearing, resetOf, bitOf, setHead, setHdp, setCp}
+use Rattle.registers.specs.Table.{setMarks, setMark, setTearings, setTearing, clearTearing, setReset, setResetBit, unmarked, headsOf}
+use Rattle.registers.specs.Table.{cpsOf, flagsFit, isDevice, loadedFrom, loaded}
 
 -- ---- a store
 
@@ -492,7 +496,8 @@ pub length-loaded : (c b : List ℕ) → length (loaded c b) ≡ length b
 unfolding loaded
 length-loaded c b = length-from 0 c b
 
-getD-from : (k : ℕ) (c b : List ℕ) (j : ℕ) → j < length b → getD (loadedFrom k c b) j 0 ≡ pick (isDevice (k + j)) (getD c (k + j) 0) (getD b j 0)
+getD-from : (k : ℕ) (c b : List ℕ) (j : ℕ) → j < length b
+    → getD (loadedFrom k c b) j 0 ≡ pick (isDevice (k + j)) (getD c (k + j) 0) (getD b j 0)
 getD-from k c [] j h = absurd (omega arith)
 getD-from k c (x ∷ b) zero h = ap (λ (n : ℕ). pick (isDevice n) (getD c n 0) x) (sym (add-zero k))
 getD-from k c (x ∷ b) (suc j) h =

@@ -15,7 +15,8 @@ use lib.Dec.{eqb, leb, ltb}
 use Rattle.layout.specs.Choice.{pick, both}
 use Rattle.layout.specs.Layout.{channels, queues}
 use Rattle.layout.specs.Class.{hdpClass, cpClass, teardownClass, resetClass, passedClass, unofferedClass, unguardedClass}
-use Rattle.registers.specs.Table.{hdpOf, cpOf, tearingOf, awaiting, anyTearing, resetOf, setMark, setHdp, setCp, setTearing, setReset, setResetBit}
+use Rattle.registers.specs.Table.{hdpOf, cpOf, tearingOf, awaiting, anyTearing, resetOf, setMark, setHdp, setCp, setTearing}
+use Rattle.registers.specs.Table.{setReset, setResetBit}
 
 -- the code that a finished teardown leaves in CP
 abbrev pub teardownDone : ℕ

@@ -30,8 +30,11 @@ ghost use mathlib.Core.List.{List};
 ghost use Prim.Native.Nat.{ℕ, _+_, _<_};
 ghost use Rattle.layout.specs.Choice.{pick};
 ghost use Rattle.layout.specs.Layout.{queues};
-ghost use Rattle.registers.specs.Table.{awaiting, anyTearing, resetOf, bitOf, tearingOf, setMark, setTearing, flagsFit, isDevice, loaded};
-ghost use Rattle.registers.specs.Rules.{zeroingFault, headFault, ackFault, teardownFault, resetFault, zeroFault, tearQueue, headNumber, teardownNumber, resetNumber, registerFault, headWritten, ackWritten, resetWritten, written};
+ghost use Rattle.registers.specs.Table.{awaiting, anyTearing, resetOf, bitOf, tearingOf, setMark, setTearing, flagsFit, isDevice};
+ghost use Rattle.registers.specs.Table.{loaded};
+ghost use Rattle.registers.specs.Rules.{zeroingFault, headFault, ackFault, teardownFault, resetFault, zeroFault, tearQueue};
+ghost use Rattle.registers.specs.Rules.{headNumber, teardownNumber, resetNumber, registerFault, headWritten, ackWritten};
+ghost use Rattle.registers.specs.Rules.{resetWritten, written};
 
 // How many words the table has, and which word is which; the head of queue q is word q. The last two are spare.
 pub const STATE: usize = 3 * QUEUES + 6;

@@ -1,5 +1,6 @@
 -- A call of the controller as a caller in C sees it: a record in parts, and what the call leaves.
---     engineAt e ch        who takes a step: 0 the reset; on channel ch 1 transmit, 2 receive, 3 the transmit teardown, any other the receive teardown
+--     engineAt e ch        who takes a step: 0 the reset; on channel ch 1 transmit, 2 receive, 3 the transmit teardown, any other the
+--                          receive teardown
 --     Lent, lent           the answer, the record's parts, the burst's words and descriptor memory afterwards
 --     lentBy p o           what the outcome o leaves of the parts p
 --     Came, came, cameBy   the same for a frame, which moves nothing over the bus and has no memory

@@ -185,7 +185,8 @@ fn read_record(
     rx: &ReceivingRows,
     rest: &Rest,
 ) -> Controller
-    ensures { λ r. ⌜ r ≡ controllerIn (parts (now (state .entry)) (now (stages .entry)) (now (tx .entry)) (now (rx .entry)) (now (rest .entry))) ⌝ }
+    ensures { λ r. ⌜ r ≡ controllerIn
+        (parts (now (state .entry)) (now (stages .entry)) (now (tx .entry)) (now (rx .entry)) (now (rest .entry))) ⌝ }
 {
     let channels = read_channels(tx, rx);
     let table = *state;
@@ -347,10 +348,12 @@ pub extern "C" fn gresomund_step(
     rest: &mut Rest,
     burst: &mut [u32; 3],
 ) -> u32
-    ensures { λ r. ⌜ lent r (parts (now (state .exit)) (now (stages .exit)) (now (tx .exit)) (now (rx .exit)) (now (rest .exit))) (now (burst .exit)) (now (mem .exit))
+    ensures { λ r. ⌜ lent r (parts (now (state .exit)) (now (stages .exit)) (now (tx .exit)) (now (rx .exit)) (now (rest .exit)))
+        (now (burst .exit)) (now (mem .exit))
         ≡ lentBy (parts (now (state .entry)) (now (stages .entry)) (now (tx .entry)) (now (rx .entry)) (now (rest .entry)))
         (stepOf (engineAt engine channel)
-        (controllerIn (parts (now (state .entry)) (now (stages .entry)) (now (tx .entry)) (now (rx .entry)) (now (rest .entry)))) (now (mem .entry))) ⌝ }
+        (controllerIn (parts (now (state .entry)) (now (stages .entry)) (now (tx .entry)) (now (rx .entry)) (now (rest .entry))))
+        (now (mem .entry))) ⌝ }
 {
     let e = read_engine(engine, channel);
     let k = read_record(state, stages, tx, rx, rest);
@@ -371,10 +374,12 @@ pub extern "C" fn gresomund_unguarded(
     rest: &mut Rest,
     burst: &mut [u32; 3],
 ) -> u32
-    ensures { λ r. ⌜ lent r (parts (now (state .exit)) (now (stages .exit)) (now (tx .exit)) (now (rx .exit)) (now (rest .exit))) (now (burst .exit)) (now (mem .exit))
+    ensures { λ r. ⌜ lent r (parts (now (state .exit)) (now (stages .exit)) (now (tx .exit)) (now (rx .exit)) (now (rest .exit)))
+        (now (burst .exit)) (now (mem .exit))
         ≡ lentBy (parts (now (state .entry)) (now (stages .entry)) (now (tx .entry)) (now (rx .entry)) (now (rest .entry)))
         (unguardedWrite address value
-        (controllerIn (parts (now (state .entry)) (now (stages .entry)) (now (tx .entry)) (now (rx .entry)) (now (rest .entry)))) (now (mem .entry))) ⌝ }
+        (controllerIn (parts (now (state .entry)) (now (stages .entry)) (now (tx .entry)) (now (rx .entry)) (now (rest .entry))))
+        (now (mem .entry))) ⌝ }
 {
     let k = read_record(state, stages, tx, rx, rest);
     let s = unguarded_write(k, mem, address, value);
@@ -393,7 +398,8 @@ pub extern "C" fn gresomund_frame(
 ) -> u32
     ensures { λ r. ⌜ came r (parts (now (state .exit)) (now (stages .exit)) (now (tx .exit)) (now (rx .exit)) (now (rest .exit)))
         ≡ cameBy (parts (now (state .entry)) (now (stages .entry)) (now (tx .entry)) (now (rx .entry)) (now (rest .entry)))
-        (frameOf n (controllerIn (parts (now (state .entry)) (now (stages .entry)) (now (tx .entry)) (now (rx .entry)) (now (rest .entry))))) ⌝ }
+        (frameOf n (controllerIn
+        (parts (now (state .entry)) (now (stages .entry)) (now (tx .entry)) (now (rx .entry)) (now (rest .entry))))) ⌝ }
 {
     let k = read_record(state, stages, tx, rx, rest);
     let a = hosted_frame(k, n);

@@ -26,7 +26,8 @@ use Rattle.layout.proofs.ChoiceLaws.{pick-holds}
 use Rattle.words.specs.Word.{word, put}
 use Rattle.words.specs.WordSet.{has}
 use Rattle.words.proofs.WordLaws.{length-put, put-put-same}
-use Rattle.registers.specs.Table.{stateWords, hdpAt, cpAt, marksAt, tearingAt, resetAt, bitAt, allMarks, headOf, hdpOf, cpOf, marksOf, tearingsOf, awaiting, anyTearing, resetOf, headsOf, setHead, setMark, setTearing}
+use Rattle.registers.specs.Table.{stateWords, hdpAt, cpAt, marksAt, tearingAt, resetAt, bitAt, allMarks, headOf, hdpOf, cpOf, marksOf}
+use Rattle.registers.specs.Table.{tearingsOf, awaiting, anyTearing, resetOf, headsOf, setHead, setMark, setTearing}
 use Rattle.registers.specs.Rules.{tearQueue, headNumber, teardownNumber, resetNumber, registerFault, headWritten, ackWritten, written}
 use Rattle.registers.proofs.RegisterLaws.{byClass-head, tearQueue-lt, headWritten-set}
 use Rattle.book.specs.World.{World, setState}
@@ -36,7 +37,8 @@ use Rattle.guard.specs.declared.Effect.the-variants.{Plain}
 use Rattle.guard.specs.declared.Tail.{Tail}
 use Rattle.guard.specs.declared.Tail.the-variants.{Of, Nobody}
 use Rattle.guard.specs.Answers.{numberOf, Outcome, accept, refuse}
-use Rattle.guard.specs.Judges.{judgeChain, judgeStart, judgeHead, judgeRegister, tailIn, judgeAppend, atTail, judgeLast, judgeWord, judgeClass, judge}
+use Rattle.guard.specs.Judges.{judgeChain, judgeStart, judgeHead, judgeRegister, tailIn, judgeAppend, atTail, judgeLast, judgeWord}
+use Rattle.guard.specs.Judges.{judgeClass, judge}
 use Rattle.controller.specs.declared.Controller.{Controller}
 use Rattle.controller.specs.Controller.{StepDone, answer, unguardedWrite, registerWrite}
 use Rattle.safety.specs.Follows.{Alike, Agrees, Carried}
@@ -93,7 +95,8 @@ module _ {t c : List ℕ} (a : Alike t c) (n v : ℕ) where
   pub fault-alike : registerFault t n v ≡ registerFault c n v
   unfolding registerFault
   fault-alike =
-      byClass-both _≡_ n _ _ _ _ _ _ _ _ _ _ _ _ _ _ _ _ (λ h. head-alike a (n - hdpClass) v (omega arith)) (λ q h. rw (awaiting-alike a) refl)
+      byClass-both _≡_ n _ _ _ _ _ _ _ _ _ _ _ _ _ _ _ _ (λ h. head-alike a (n - hdpClass) v (omega arith))
+      (λ q h. rw (awaiting-alike a) refl)
       (λ x h. teardown-alike a (tearQueue x v) v (tearQueue-lt x v h)) (resets-alike a v) refl refl refl refl
 
 module _ {t c : List ℕ} (a : Alike t c) (lt : length t ≡ stateWords) (lc : length c ≡ stateWords) where
@@ -122,7 +125,8 @@ module _ {t c : List ℕ} (a : Alike t c) (lt : length t ≡ stateWords) (lc : l
   unfolding headWritten
   headWritten-alike q =
       let b = set-alike a lt lc (hdpAt q) v in
-      pick-alike (awaiting t) (awaiting c) _ _ _ _ (awaiting-alike a) (mark-alike b (length-set t (hdpAt q) v ∙ lt) (length-set c (hdpAt q) v ∙ lc) q) b
+      pick-alike (awaiting t) (awaiting c) _ _ _ _ (awaiting-alike a)
+      (mark-alike b (length-set t (hdpAt q) v ∙ lt) (length-set c (hdpAt q) v ∙ lc) q) b
 
   ackWritten-alike : (q : ℕ) → q < queues → Alike (ackWritten t q v) (ackWritten c q v)
   unfolding ackWritten
@@ -140,7 +144,8 @@ module _ {t c : List ℕ} (a : Alike t c) (lt : length t ≡ stateWords) (lc : l
 
 -- ---- where a write goes
 
-module _ (a v : ℕ) (c : Controller) (m : List ℕ) (size : length m ≡ descBytes) (defined : c .undefined ≡ false) (whole : eqb (a % 4) 0 ≡ true) where
+module _ (a v : ℕ) (c : Controller) (m : List ℕ) (size : length m ≡ descBytes) (defined : c .undefined ≡ false)
+    (whole : eqb (a % 4) 0 ≡ true) where
   pub write-memory : inDescriptors a ≡ true → unguardedWrite a v c m ≡ answer 0 c (put m ((a - descFirst) / 4) v)
   unfolding unguardedWrite
   write-memory e = simp (eq-eqb (length m) descBytes size, defined, whole, e)
@@ -171,7 +176,8 @@ refuse-stored k v s n h = record { mem = λ e. absurd (h e); state = λ e. absur
 append-stored : (q k v : ℕ) (s : World) → Stored k v s (judgeAppend q k v s)
 unfolding judgeAppend
 append-stored q k v s =
-    fault-holds (Stored k v s) (judgeChain (sideOf q) v s .0) _ _ (λ z. record { mem = λ e. refl; state = λ e. refl; kinds = refl }) (λ h. refuse-stored k v s _ h)
+    fault-holds (Stored k v s) (judgeChain (sideOf q) v s .0) _ _ (λ z. record { mem = λ e. refl; state = λ e. refl; kinds = refl })
+    (λ h. refuse-stored k v s _ h)
 
 last-stored : (k v : ℕ) (s : World) → Stored k v s (judgeLast k v s)
 unfolding judgeLast
@@ -185,7 +191,8 @@ word-stored : (k v : ℕ) (s : World) → Stored k v s (judgeWord k v s)
 unfolding judgeWord
 word-stored k v s =
     pick-holds (Stored k v s) (has (s .used) k) _ _
-    (pick-holds (Stored k v s) (both (eqb (word (s .mem) k) 0) (not (eqb v 0))) _ _ (last-stored k v s) (refuse-stored k v s 11 (omega arith)))
+    (pick-holds (Stored k v s) (both (eqb (word (s .mem) k) 0) (not (eqb v 0))) _ _ (last-stored k v s)
+    (refuse-stored k v s 11 (omega arith)))
     (record { mem = λ e. refl; state = λ e. refl; kinds = refl })
 
 -- a register was written: its rules over the small state gave no fault (k), and but for a head the table is as those rules say (x)
@@ -201,7 +208,8 @@ refuse-ruled k x s n h = record { fault = λ e. absurd (h e); mem = λ e. absurd
 register-ruled : (n v : ℕ) (s : World) → Ruled (registerFault (s .state) n v) (written (s .state) n v) s (judgeRegister n v s)
 unfolding judgeRegister
 register-ruled n v s =
-    fault-holds (Ruled _ _ s) _ _ _ (λ z. record { fault = λ e. z; mem = λ e. refl; state = λ e l. alike-refl _; kinds = refl }) (λ h. refuse-ruled _ _ s _ h)
+    fault-holds (Ruled _ _ s) _ _ _ (λ z. record { fault = λ e. z; mem = λ e. refl; state = λ e l. alike-refl _; kinds = refl })
+    (λ h. refuse-ruled _ _ s _ h)
 
 pub head-fault : (t : List ℕ) (n v : ℕ) → n < hdpClass + queues → registerFault t n v ≡ headNumber t (n - hdpClass) v
 unfolding registerFault
@@ -219,7 +227,8 @@ start-ruled q v s h a z =
     (λ y. record {
       fault = λ e. z;
       mem = λ e. refl;
-      state = λ e l. rw (headWritten-set (s .state) q v a) (set-alike (heads-alike (alike-refl (s .state)) q v h) (length-set (s .state) q v ∙ l) l (hdpAt q) v);
+      state = λ e l. rw (headWritten-set (s .state) q v a)
+          (set-alike (heads-alike (alike-refl (s .state)) q v h) (length-set (s .state) q v ∙ l) l (hdpAt q) v);
       kinds = refl;
     })
     (λ n. refuse-ruled _ _ s _ n)
@@ -230,9 +239,11 @@ head-ruled q v s h = fault-holds (Ruled _ _ s) _ _ _ (λ z. at (awaiting (s .sta
   where
     at : (t : Bool) → awaiting (s .state) ≡ t → headNumber (s .state) q v ≡ 0
         → Ruled (headNumber (s .state) q v) (headWritten (s .state) q v) s
-        (pick t (accept Plain (setState (headWritten (s .state) q v) s)) (pick (eqb (headOf (s .state) q) 0) (judgeStart q v s) (refuse 10 s)))
+        (pick t (accept Plain (setState (headWritten (s .state) q v) s))
+        (pick (eqb (headOf (s .state) q) 0) (judgeStart q v s) (refuse 10 s)))
     at true a z = record { fault = λ e. z; mem = λ e. refl; state = λ e l. alike-refl _; kinds = refl }
-    at false a z = pick-holds (Ruled _ _ s) (eqb (headOf (s .state) q) 0) _ _ (start-ruled q v s h a z) (refuse-ruled _ _ s 10 (omega arith))
+    at false a z = pick-holds (Ruled _ _ s) (eqb (headOf (s .state) q) 0) _ _ (start-ruled q v s h a z)
+        (refuse-ruled _ _ s 10 (omega arith))
 
 class-ruled : (n v : ℕ) (s : World) → Ruled (registerFault (s .state) n v) (written (s .state) n v) s (judgeClass n v s)
 unfolding judgeClass
@@ -274,23 +285,34 @@ allowed a v s c g size z = at (eqb (a % 4) 0) refl z
     inside o w whole there e =
         let long : length (o .world .mem) ≡ descBytes = ap length (w .mem e) ∙ length-put (s .mem) k v ∙ size in
         rw (write-memory a v c (o .world .mem) long (g .defined) whole there)
-        (record { number = refl; mem = ap (λ (m : List ℕ). put m k v) (w .mem e) ∙ put-put-same (s .mem) k v v ∙ sym (w .mem e); alike = rw (w .state e) (g .alike) })
+        (record {
+          number = refl;
+          mem = ap (λ (m : List ℕ). put m k v) (w .mem e) ∙ put-put-same (s .mem) k v v
+              ∙ sym (w .mem e);
+          alike = rw (w .state e) (g .alike);
+        })
 
     outside : (o : Outcome) → Ruled (registerFault (s .state) (classAt a) v) (written (s .state) (classAt a) v) s o
-        → eqb (a % 4) 0 ≡ true → inDescriptors a ≡ false → numberOf (o .answer) ≡ 0 → Carried (unguardedWrite a v c (o .world .mem)) (o .world)
+        → eqb (a % 4) 0 ≡ true → inDescriptors a ≡ false → numberOf (o .answer) ≡ 0
+        → Carried (unguardedWrite a v c (o .world .mem)) (o .world)
     outside o w whole there e =
         let long : length (o .world .mem) ≡ descBytes = ap length (w .mem e) ∙ size in
         rw (write-register a v c (o .world .mem) long (g .defined) whole there)
         (registerWrite-carried (classAt a) v c (o .world .mem) (o .world) (sym (fault-alike (g .alike) (classAt a) v) ∙ w .fault e) refl
         (alike-trans (w .state e (g .here)) (written-alike (g .alike) (g .here) (g .there) v (classAt a))))
 
-    held : (t : Bool) → inDescriptors a ≡ t → eqb (a % 4) 0 ≡ true → numberOf (pick t (judgeWord k v s) (judgeClass (classAt a) v s) .answer) ≡ 0
-        → Carried (unguardedWrite a v c (pick t (judgeWord k v s) (judgeClass (classAt a) v s) .world .mem)) (pick t (judgeWord k v s) (judgeClass (classAt a) v s) .world)
+    held : (t : Bool) → inDescriptors a ≡ t → eqb (a % 4) 0 ≡ true
+        → numberOf (pick t (judgeWord k v s) (judgeClass (classAt a) v s) .answer) ≡ 0
+        → Carried (unguardedWrite a v c (pick t (judgeWord k v s) (judgeClass (classAt a) v s) .world .mem))
+        (pick t (judgeWord k v s) (judgeClass (classAt a) v s) .world)
     held true there whole e = inside (judgeWord k v s) (word-stored k v s) whole there e
     held false there whole e = outside (judgeClass (classAt a) v s) (class-ruled (classAt a) v s) whole there e
 
-    at : (t : Bool) → eqb (a % 4) 0 ≡ t → numberOf (pick t (pick (inDescriptors a) (judgeWord k v s) (judgeClass (classAt a) v s)) (refuse 3 s) .answer) ≡ 0
-        → Carried (unguardedWrite a v c (pick t (pick (inDescriptors a) (judgeWord k v s) (judgeClass (classAt a) v s)) (refuse 3 s) .world .mem)) (pick t (pick (inDescriptors a) (judgeWord k v s) (judgeClass (classAt a) v s)) (refuse 3 s) .world)
+    at : (t : Bool) → eqb (a % 4) 0 ≡ t
+        → numberOf (pick t (pick (inDescriptors a) (judgeWord k v s) (judgeClass (classAt a) v s)) (refuse 3 s) .answer) ≡ 0
+        → Carried (unguardedWrite a v c
+        (pick t (pick (inDescriptors a) (judgeWord k v s) (judgeClass (classAt a) v s)) (refuse 3 s) .world .mem))
+        (pick t (pick (inDescriptors a) (judgeWord k v s) (judgeClass (classAt a) v s)) (refuse 3 s) .world)
     at true whole e = held (inDescriptors a) refl whole e
     at false whole e = absurd (omega arith)
 
@@ -298,5 +320,6 @@ pub judge-kinds : (a v : ℕ) (s : World) → judge a v s .world .kinds ≡ s .k
 unfolding judge
 judge-kinds a v s =
     pick-holds (λ (o : Outcome). o .world .kinds ≡ s .kinds) (eqb (a % 4) 0) _ _
-    (pick-holds (λ (o : Outcome). o .world .kinds ≡ s .kinds) (inDescriptors a) _ _ (word-stored ((a - descFirst) / 4) v s .kinds) (class-ruled (classAt a) v s .kinds))
+    (pick-holds (λ (o : Outcome). o .world .kinds ≡ s .kinds) (inDescriptors a) _ _ (word-stored ((a - descFirst) / 4) v s .kinds)
+    (class-ruled (classAt a) v s .kinds))
     refl

@@ -15,7 +15,8 @@ use Rattle.guard.specs.Answers.{Outcome, numberOf}
 use Rattle.guard.specs.Judges.{judge}
 use Rattle.guard.specs.Guard.{admitted, guestWrite}
 use Rattle.kinds.specs.Kinds.{judgeKind, kindChange}
-use Rattle.machine.specs.Machine.{Machine, Op, write, kind, frame, step, apply, runOps, worldOf, withWorld, carriedOut, applyWrite, applyKind, freshMachine}
+use Rattle.machine.specs.Machine.{Machine, Op, write, kind, frame, step, apply, runOps, worldOf, withWorld, carriedOut, applyWrite}
+use Rattle.machine.specs.Machine.{applyKind, freshMachine}
 use Rattle.safety.specs.Statement.{Legal, AllLegal, Safety, Soundness}
 use Rattle.safety.proofs.Inv.{Inv}
 use Rattle.safety.proofs.Machines.{Kept, frame-kept, step-kept, fresh-inv}
@@ -33,7 +34,8 @@ judge-passes : (a x : ℕ) → x < 2 ^ 32 → (s : Machine) → Calm s → Loade
 unfolding judge
 judge-passes a x b s c l =
     passes-pick a x s (eqb (a % 4) 0) _ _
-    (λ whole. passes-pick a x s (inDescriptors a) _ _ (λ there. word-passes a x b s c whole there) (λ away. class-passes a x s c l whole away))
+    (λ whole. passes-pick a x s (inDescriptors a) _ _ (λ there. word-passes a x b s c whole there)
+    (λ away. class-passes a x s c l whole away))
     (λ e. passes-refuse a x s 3 (bookOf s) (omega arith))
 
 write-fair : (a x : ℕ) → x < 2 ^ 32 → (s : Machine) → Calm s → Loaded s → Fair s (carriedOut a x (judge a x (bookOf s)) s)
@@ -46,7 +48,12 @@ write-fair a x b s c l = at (judge-verdict a x (bookOf s))
 pub write-kept : (a x : ℕ) → x < 2 ^ 32 → (s : Machine) → Inv s → Kept (write a x) s
 unfolding applyWrite guestWrite
 write-kept a x b s i = record {
-  safe = record { defined = f .inv .defined; answered = f .answered; inPlace = rw (release-kinds (worldOf s)) at (f .inPlace); spares = tt };
+  safe = record {
+    defined = f .inv .defined;
+    answered = f .answered;
+    inPlace = rw (release-kinds (worldOf s)) at (f .inPlace);
+    spares = tt;
+  };
   inv = f .inv;
 }
   where
@@ -70,7 +77,8 @@ kind-settled b k s c = at (judgeKind b k (bookOf s)) (kind-verdict b k (bookOf s
         let e : numberOf (o .answer) ≡ 0 = ap numberOf (y .is) in
         let d = x .changed e in
         record {
-          inv = subst (λ (t : World). Inv (withWorld t s)) (sym (x .world e)) (calm-inv _ (kind-calm s c b k (d .low) (d .high) (d .clear)));
+          inv = subst (λ (t : World). Inv (withWorld t s)) (sym (x .world e))
+              (calm-inv _ (kind-calm s c b k (d .low) (d .high) (d .clear)));
           answered = λ z. omega (arith, z, e);
         }
 

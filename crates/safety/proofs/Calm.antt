@@ -25,7 +25,8 @@ use Rattle.layout.proofs.ChoiceLaws.{clash, pick-same}
 use Rattle.layout.proofs.BitLaws.{bits-same}
 use Rattle.registers.specs.Table.{stateWords, isDevice, headsOf, marksOf, tearingsOf, awaiting, resetOf, bitOf, loaded}
 use Rattle.registers.specs.Rules.{teardownDone}
-use Rattle.registers.proofs.TableLaws.{getD-headsOf, flagsFit-bounds, bounds-flagsFit, getD-loaded, length-loaded, headsOf-loaded, cpOf-loaded, marksOf-loaded, tearingOf-loaded, resetOf-loaded, bitOf-loaded, flagsFit-loaded}
+use Rattle.registers.proofs.TableLaws.{getD-headsOf, flagsFit-bounds, bounds-flagsFit, getD-loaded, length-loaded, headsOf-loaded}
+use Rattle.registers.proofs.TableLaws.{cpOf-loaded, marksOf-loaded, tearingOf-loaded, resetOf-loaded, bitOf-loaded, flagsFit-loaded}
 use Rattle.book.specs.declared.Mode.the-variants.{Head}
 use Rattle.book.specs.HandOver.{Uses}
 use Rattle.book.specs.Release.{resetOver, releasedFlags, withHeads}
@@ -41,7 +42,8 @@ use Rattle.queue.proofs.NumberLaws.{part-all, queueAt, linked-each}
 use Rattle.queue.proofs.SetLaws.{queue-kept, length-kept, length-starts, start-number, heads-starts}
 use Rattle.queue.proofs.StateLaws.{Settled, settles, release-parts}
 use Rattle.machine.specs.Machine.{Machine, worldOf, withWorld}
-use Rattle.safety.proofs.Inv.{phaseOf, idle, Serves, RoomIn, Post, postOf, Common, commonOf, over, wordsOf, modeOf, Sized, Held, TearingFits, Inv}
+use Rattle.safety.proofs.Inv.{phaseOf, idle, Serves, RoomIn, Post, postOf, Common, commonOf, over, wordsOf, modeOf, Sized, Held}
+use Rattle.safety.proofs.Inv.{TearingFits, Inv}
 use Rattle.safety.proofs.Frame.{SameLength}
 use Rattle.safety.proofs.Serve.{serves-live, serves-new, room-new}
 
@@ -65,11 +67,13 @@ pub record Calm (s : Machine) : Type 0 where
   pub bits : bitOf (s .ctl .state) ≡ resetOf (s .ctl .state)
   pub ready : resetOf (s .ctl .state) ≡ true → awaiting (s .ctl .state) ≡ false
   pub duty : (q : ℕ) → q < queues → Duty (commonOf s) (postOf s q) (idle (phaseOf (s .ctl) q))
-  pub engine : (q : ℕ) → q < queues → Serves (s .kinds) (s .lens) (wordsOf s) (queueAt qs q) (postOf s q .hdp) (postOf s q .stage) (phaseOf (s .ctl) q)
+  pub engine : (q : ℕ) → q < queues
+      → Serves (s .kinds) (s .lens) (wordsOf s) (queueAt qs q) (postOf s q .hdp) (postOf s q .stage) (phaseOf (s .ctl) q)
   pub room : (q : ℕ) → q < queues → RoomIn (sideOf q) (s .kinds) (s .lens) (wordsOf s) (queueAt qs q)
 
 -- it is what is read of reset, marks and post
-pub duty-same : {c c′ : Common} {p p′ : Post} {b b′ : Bool} → c′ .reset ≡ c .reset → c′ .waits ≡ c .waits → p′ .tearing ≡ p .tearing → p′ .cp ≡ p .cp
+pub duty-same : {c c′ : Common} {p p′ : Post} {b b′ : Bool} → c′ .reset ≡ c .reset → c′ .waits ≡ c .waits → p′ .tearing ≡ p .tearing
+    → p′ .cp ≡ p .cp
     → p′ .stage ≡ p .stage → p′ .mark ≡ p .mark → p′ .hdp ≡ p .hdp → b′ ≡ b → Duty c p b → Duty c′ p′ b′
 duty-same r w t k n m h b d = record {
   young = λ x z. d .young (sym t ∙ x) (sym k ∙ z);
@@ -127,7 +131,8 @@ calm-inv s c =
     still : (q : ℕ) → q < queues → kept (wordsOf s) Head (queueAt (c .qs) q) ≡ queueAt (c .qs) q
     still q l =
         kept-live (wordsOf s) (queueAt (c .qs) q)
-        (serves-live (s .kinds) (s .lens) (wordsOf s) (queueAt (c .qs) q) (postOf s q .hdp) (postOf s q .stage) (phaseOf (s .ctl) q) (c .engine q l))
+        (serves-live (s .kinds) (s .lens) (wordsOf s) (queueAt (c .qs) q) (postOf s q .hdp) (postOf s q .stage) (phaseOf (s .ctl) q)
+        (c .engine q l))
 
 -- ---- the release
 
@@ -176,7 +181,8 @@ module _ (s : Machine) (i : Inv s) where
   release-is =
       ap (λ (t : World). withWorld t s)
       (release-parts (worldOf s) (starts ks) uses
-      (rw (over-seen, heads-seen) (released-queues w (modeOf s) qs [] (s .used, s .lens) all-linked (rw (append-nil (flat qs)) (i .held .sole)))))
+      (rw (over-seen, heads-seen)
+      (released-queues w (modeOf s) qs [] (s .used, s .lens) all-linked (rw (append-nil (flat qs)) (i .held .sole)))))
 
   seen-size : length seen ≡ stateWords
   seen-size = length-loaded (s .ctl .state) (s .state) ∙ i .sized .book .size
@@ -204,9 +210,11 @@ module _ (s : Machine) (i : Inv s) where
   -- teardowns, queue by queue
   tearings-left : tearingsOf state ≡ tearingsOf (s .ctl .state)
   tearings-left =
-      bits-same queues (tearingsOf state) (tearingsOf (s .ctl .state)) (flagsFit-bounds state (settled-seen .fit) .1) (i .sized .ctl .tearings)
+      bits-same queues (tearingsOf state) (tearingsOf (s .ctl .state)) (flagsFit-bounds state (settled-seen .fit) .1)
+      (i .sized .ctl .tearings)
       (λ q l. settled-seen .tearing q l
-      ∙ rw (cpOf-loaded (s .ctl .state) (s .state) q (i .sized .book .size) l, tearingOf-loaded (s .ctl .state) (s .state) q) (i .turn q l .settles))
+      ∙ rw (cpOf-loaded (s .ctl .state) (s .state) q (i .sized .book .size) l, tearingOf-loaded (s .ctl .state) (s .state) q)
+      (i .turn q l .settles))
 
   left-calm : Calm (left state)
   left-calm =
@@ -236,8 +244,10 @@ module _ (s : Machine) (i : Inv s) where
         resets = z .reset ∙ rw (o, resetOf-loaded (s .ctl .state) (s .state)) (i .shared .resets);
         bits = i .shared .bits;
         ready = i .shared .ready;
-        duty = λ q l. let t = i .turn q l in record { young = t .young; stage = t .stage; alone = t .alone; ready = t .ready; asleep = t .asleep; zeroed = t .zeroed };
-        engine = λ q l. serves-new (s .kinds) (s .lens) (uses .1) w w (queueAt ks q) (same-words (queueAt ks q)) (lengths-left q) (postOf s q .hdp) (postOf s q .stage) (phaseOf (s .ctl) q)
+        duty = λ q l. let t = i .turn q l in
+            record { young = t .young; stage = t .stage; alone = t .alone; ready = t .ready; asleep = t .asleep; zeroed = t .zeroed };
+        engine = λ q l. serves-new (s .kinds) (s .lens) (uses .1) w w (queueAt ks q) (same-words (queueAt ks q)) (lengths-left q)
+            (postOf s q .hdp) (postOf s q .stage) (phaseOf (s .ctl) q)
             (rw (queue-kept w (modeOf s) qs q) (i .engine q l));
         room = λ q l. room-new (s .kinds) (s .lens) (uses .1) w w (queueAt ks q) (same-words (queueAt ks q)) (lengths-left q) (sideOf q)
             (rw (queue-kept w (modeOf s) qs q) (i .room q l));
@@ -246,11 +256,13 @@ module _ (s : Machine) (i : Inv s) where
   left-loaded : Loaded (left state)
   left-loaded =
       ext-getD 0 (loaded (s .ctl .state) state) state (length-loaded (s .ctl .state) state)
-      (λ k h. let l : k < length state = omega (arith, length-loaded (s .ctl .state) state) in getD-loaded (s .ctl .state) state k l ∙ at k l (isDevice k) refl)
+      (λ k h. let l : k < length state = omega (arith, length-loaded (s .ctl .state) state) in
+      getD-loaded (s .ctl .state) state k l ∙ at k l (isDevice k) refl)
     where
       at : (k : ℕ) → k < length state → (b : Bool) → isDevice k ≡ b → pick b (getD (s .ctl .state) k 0) (getD state k 0) ≡ getD state k 0
       at k h true d =
-          sym (settled-seen .device k d ∙ getD-loaded (s .ctl .state) (s .state) k (omega (arith, settled-seen .size, i .sized .book .size)) ∙ rw d refl)
+          sym (settled-seen .device k d
+          ∙ getD-loaded (s .ctl .state) (s .state) k (omega (arith, settled-seen .size, i .sized .book .size)) ∙ rw d refl)
       at k h false d = refl
 
   pub release-calm : Calm (released s)

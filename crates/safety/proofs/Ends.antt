@@ -133,9 +133,11 @@ module _ (F G : List ℕ → Type 0) (w v : ℕ → ℕ) (L : List ℕ) (p h n l
       let kc : All (Kin w v) (z .cs ++ z .d ∷ z .rs) = rw q (kf, same-kin w v fs sf) in
       let kd = all-right (Kin w v) (z .cs) (z .d ∷ z .rs) kc .0 in
       let rest = keep (z .rs) (behind-part (Same w v) (z .cs) (z .d) (z .rs) f fs q sf) (o .todo) in
-      let goes = kept-done v (z .cs) (z .d) (z .rs) (noEop-kin w v (z .cs) (all-left (Kin w v) (z .cs) (z .d ∷ z .rs) kc) (z .before)) (kd .0 ∙ o .last) f fs q t c in
+      let goes = kept-done v (z .cs) (z .d) (z .rs) (noEop-kin w v (z .cs) (all-left (Kin w v) (z .cs) (z .d ∷ z .rs) kc) (z .before))
+      (kd .0 ∙ o .last) f fs q t c in
       let k : kept v Head (f ∷ fs) ≡ pick (eoq (w (z .d + 3))) [] (z .rs) =
-      ap (λ (y : List ℕ). kept v Head y) (sym q) ∙ goes ∙ ap₂ (λ (b : Bool) (y : List ℕ). pick b [] y) (kd .1) (kept-live v (z .rs) (live (z .rs) rest)) in
+      ap (λ (y : List ℕ). kept v Head y) (sym q) ∙ goes
+      ∙ ap₂ (λ (b : Bool) (y : List ℕ). pick b [] y) (kd .1) (kept-live v (z .rs) (live (z .rs) rest)) in
       rw k (out (z .d) (z .rs) (o .latch) rest)
     where
       out : (d : ℕ) (rs : List ℕ) → Latch w d rs l → G rs → (start (pick (eoq (w (d + 3))) [] rs) ≡ l) × G (pick (eoq (w (d + 3))) [] rs)

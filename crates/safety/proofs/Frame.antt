@@ -40,13 +40,16 @@ sendable-same K w v pl ds a s = record { fresh = fresh-same3 w v pl ds a (s .fre
 abbrev pub SameLength : List ℕ → List ℕ → ℕ → Type 0
 SameLength lens new d = getD new d 0 ≡ getD lens d 0
 
-long-same : (lens new : List ℕ) (w v : ℕ → ℕ) (ds : List ℕ) → All (SameLength lens new) ds → All (Same3 w v) ds → Long lens w ds → Long new v ds
+long-same : (lens new : List ℕ) (w v : ℕ → ℕ) (ds : List ℕ) → All (SameLength lens new) ds → All (Same3 w v) ds → Long lens w ds
+    → Long new v ds
 long-same lens new w v [] b a r = tt
 long-same lens new w v (d ∷ ds) b a r = (rw (a .0 .1, b .0) (r .0), long-same lens new w v ds (b .1) (a .1) (r .1))
 
 -- the words or the recorded lengths change, or both
-pub fillable-new : (lens new : List ℕ) (w v : ℕ → ℕ) (ds : List ℕ) → All (SameLength lens new) ds → All (Same3 w v) ds → Fillable lens w ds → Fillable new v ds
-fillable-new lens new w v ds b a s = record { fresh = fresh-same3 w v Buffer ds a (s .fresh); long = long-same lens new w v ds b a (s .long) }
+pub fillable-new : (lens new : List ℕ) (w v : ℕ → ℕ) (ds : List ℕ) → All (SameLength lens new) ds → All (Same3 w v) ds → Fillable lens w ds
+    → Fillable new v ds
+fillable-new lens new w v ds b a s =
+    record { fresh = fresh-same3 w v Buffer ds a (s .fresh); long = long-same lens new w v ds b a (s .long) }
 
 pub lengths-same : (lens ds : List ℕ) → All (SameLength lens lens) ds
 lengths-same lens ds = all-every (SameLength lens lens) (λ d. refl) ds
@@ -94,26 +97,52 @@ module _ (w v : ℕ → ℕ) (L : List ℕ) (a : All (Same3 w v) L) where
   latch-same d rs l b (inl h) = inl (h .0, ap eoq (b .2) ∙ h .1)
   latch-same d rs l b (inr h) = inr (h .0, ap eoq (b .2) ∙ h .1, h .2)
 
-  owned-new : (F G : List ℕ → Type 0) {p h n l : ℕ} (o : Owned F w L p h n l) → (All (Same3 w v) (o .spot .rs) → G (o .spot .rs)) → Owned G v L p h n l
+  owned-new : (F G : List ℕ → Type 0) {p h n l : ℕ} (o : Owned F w L p h n l) → (All (Same3 w v) (o .spot .rs) → G (o .spot .rs))
+      → Owned G v L p h n l
   owned-new F G {p} {h} {n} {l} o f =
       let b = spot-words (o .spot) in
-      record { spot = spot-same (o .spot); todo = f (b .1); last = ap eop (b .0 .2) ∙ o .last; latch = latch-same (o .spot .d) (o .spot .rs) l (b .0) (o .latch) }
+      record {
+        spot = spot-same (o .spot);
+        todo = f (b .1);
+        last = ap eop (b .0 .2)
+            ∙ o .last;
+        latch = latch-same (o .spot .d) (o .spot .rs) l (b .0) (o .latch);
+      }
 
   fetched-same : (K : List ℕ) {h n p w3 sum l : ℕ} {e : Bool} → Fetched K w L h n p w3 sum l e → Fetched K v L h n p w3 sum l e
   fetched-same K {h} {n} {p} {w3} {sum} {l} {e} f =
       let b = spot-words (f .spot) in
-      record { spot = spot-same (f .spot); todo = sendable-same K w v (placeAfter e w3 sum) (f .spot .rs) (b .1) (f .todo); next = f .next; last = ap eop (b .0 .2) ∙ f .last; clean = ap eoq (b .0 .2) ∙ f .clean }
+      record {
+        spot = spot-same (f .spot);
+        todo = sendable-same K w v (placeAfter e w3 sum) (f .spot .rs) (b .1) (f .todo);
+        next = f .next;
+        last = ap eop (b .0 .2) ∙ f .last;
+        clean = ap eoq (b .0 .2) ∙ f .clean;
+      }
 
   pub tx-same : (K : List ℕ) (h n : ℕ) (ph : Sending) → TxInv K w L h n ph → TxInv K v L h n ph
   tx-same K h n S.Idle t = t
   tx-same K h n S.New t = ready-map (Sendable K w Start) (Sendable K v Start) L h n (sendable-same K w v Start L a) t
-  tx-same K h n (S.Within p) t = record { spot = spot-same (t .spot); todo = sendable-same K w v (Middle (p .word3) (p .sum)) (t .spot .d ∷ t .spot .rs) (spot-words (t .spot)) (t .todo) }
+  tx-same K h n (S.Within p) t =
+      record {
+        spot = spot-same (t .spot);
+        todo = sendable-same K w v (Middle (p .word3) (p .sum)) (t .spot .d ∷ t .spot .rs)
+            (spot-words (t .spot)) (t .todo);
+      }
   tx-same K h n (S.Moving r) t = record { fetched = fetched-same K (t .fetched); some = t .some; below = t .below; room = t .room }
   tx-same K h n (S.Ended e) t = fetched-same K t
   tx-same K h n (S.Marking c) t =
       let b = spot-words (t .spot) in
-      record { spot = spot-same (t .spot); todo = sendable-same K w v Start (t .spot .rs) (b .1) (t .todo); last = ap eop (b .0 .2) ∙ t .last; clean = ap eoq (b .0 .2) ∙ t .clean; latch = t .latch }
-  tx-same K h n (S.Owning c) t = owned-new (Sendable K w Start) (Sendable K v Start) t (λ k. sendable-same K w v Start (t .spot .rs) k (t .todo))
+      record {
+        spot = spot-same (t .spot);
+        todo = sendable-same K w v Start (t .spot .rs) (b .1) (t .todo);
+        last = ap eop (b .0 .2)
+            ∙ t .last;
+        clean = ap eoq (b .0 .2) ∙ t .clean;
+        latch = t .latch;
+      }
+  tx-same K h n (S.Owning c) t =
+      owned-new (Sendable K w Start) (Sendable K v Start) t (λ k. sendable-same K w v Start (t .spot .rs) k (t .todo))
   tx-same K h n (S.Done l) t = through-map (Sendable K w Start) (Sendable K v Start) L h n (l .next) (sendable-same K w v Start L a) t
 
   module _ (lens new : List ℕ) (b : All (SameLength lens new) L) where
@@ -124,19 +153,44 @@ module _ (w v : ℕ → ℕ) (L : List ℕ) (a : All (Same3 w v) L) where
     abbrev taken-same : {h n p : ℕ} → Taken lens w L h n p → Taken new v L h n p
     taken-same t =
         let k = spot-words (t .spot) in
-        record { spot = spot-same (t .spot); todo = fillable-new lens new w v (t .spot .rs) (spot-lengths (t .spot) .1) (k .1) (t .todo); noEop = ap eop (k .0 .2) ∙ t .noEop; clean = ap eoq (k .0 .2) ∙ t .clean }
+        record {
+          spot = spot-same (t .spot);
+          todo = fillable-new lens new w v (t .spot .rs) (spot-lengths (t .spot) .1) (k .1) (t .todo);
+          noEop = ap eop (k .0 .2) ∙ t .noEop;
+          clean = ap eoq (k .0 .2) ∙ t .clean;
+        }
 
     pub rx-new : (h n : ℕ) (ph : Receiving) → RxInv lens w L h n ph → RxInv new v L h n ph
     rx-new h n R.Idle t = t
     rx-new h n R.Wait t = ready-map (Fillable lens w) (Fillable new v) L h n (fillable-new lens new w v L b a) t
-    rx-new h n (R.Fetch f) t = record { spot = spot-same (t .spot); todo = fillable-new lens new w v (t .spot .d ∷ t .spot .rs) (spot-lengths (t .spot)) (spot-words (t .spot)) (t .todo); some = t .some; short = t .short }
+    rx-new h n (R.Fetch f) t =
+        record {
+          spot = spot-same (t .spot);
+          todo = fillable-new lens new w v (t .spot .d ∷ t .spot .rs) (spot-lengths (t .spot))
+              (spot-words (t .spot)) (t .todo);
+          some = t .some;
+          short = t .short;
+        }
     rx-new h n (R.Moving s) t =
         let k = spot-words (t .taken .spot) .0 .0 in
         let l = spot-lengths (t .taken .spot) .0 in
-        record { taken = taken-same (t .taken); more = t .more; some = t .some; short = t .short; from = rw k (t .from); until = rw (k, l) (t .until); below = t .below; few = t .few }
+        record {
+          taken = taken-same (t .taken);
+          more = t .more;
+          some = t .some;
+          short = t .short;
+          from = rw k (t .from);
+          until = rw (k, l) (t .until);
+          below = t .below;
+          few = t .few;
+        }
     rx-new h n (R.Ended e) t = record { taken = taken-same (t .taken); short = t .short; few = t .few }
     rx-new h n (R.Last s) t = record { taken = taken-same (t .taken); short = t .short; few = t .few; latch = t .latch }
     rx-new h n (R.First s) t =
         let l = spot-lengths (t .owned .spot) .1 in
-        record { owned = owned-new (Fillable lens w) (Fillable new v) (t .owned) (λ k. fillable-new lens new w v (t .owned .spot .rs) l k (t .owned .todo)); short = t .short }
+        record {
+          owned = owned-new (Fillable lens w) (Fillable new v) (t .owned)
+              (λ k. fillable-new lens new w v (t .owned .spot .rs) l k (t .owned .todo));
+          short = t .short;
+        }
     rx-new h n (R.Done l) t = through-map (Fillable lens w) (Fillable new v) L h n (l .next) (fillable-new lens new w v L b a) t

@@ -78,7 +78,8 @@ module _ (a x : ℕ) (o : Outcome) (s : Machine) where
   abbrev made : StepDone
   made = unguardedWrite a x (s .ctl) (o .world .mem)
 
-  carried-is : numberOf (o .answer) ≡ 0 → made .number ≡ 0 → carriedOut a x o s .machine ≡ withCtl (made .ctl) (made .mem) (withWorld (o .world) s)
+  carried-is : numberOf (o .answer) ≡ 0 → made .number ≡ 0
+      → carriedOut a x o s .machine ≡ withCtl (made .ctl) (made .mem) (withWorld (o .world) s)
   carried-is z n = rw (eq-eqb (numberOf (o .answer)) 0 z, eq-eqb (made .number) 0 n) refl
 
   refused-is : numberOf (o .answer) ≢ 0 → carriedOut a x o s .machine ≡ withWorld (o .world) s

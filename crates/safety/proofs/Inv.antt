@@ -31,7 +31,8 @@ use lib.ListN.{length, getD}
 use lib.Dec.{eqb}
 use Rattle.layout.specs.Choice.{pick, both}
 use Rattle.layout.specs.Bits.{bit}
-use Rattle.layout.specs.Layout.{descBytes, lengthMax, addressEnd, goodPtr, addr, channels as channelCount, queues, marks as markCount, sideOf, channelOf}
+use Rattle.layout.specs.Layout.{descBytes, lengthMax, addressEnd, goodPtr, addr, channels as channelCount, queues, marks as markCount}
+use Rattle.layout.specs.Layout.{sideOf, channelOf}
 use Rattle.layout.specs.declared.Side.{Side}
 use Rattle.layout.specs.declared.Side.the-variants.{Transmit, Receive}
 use Rattle.words.specs.Word.{word}
@@ -378,5 +379,6 @@ pub record Inv (s : Machine) : Type 0 where
   pub held : Held s qs
   pub shared : Shared (commonOf s)
   pub turn : (q : ℕ) → q < queues → TearingFits (commonOf s) (postOf s q) (idle (phaseOf (s .ctl) q))
-  pub engine : (q : ℕ) → q < queues → Serves (s .kinds) (s .lens) (wordsOf s) (leftOf s qs q) (postOf s q .hdp) (postOf s q .stage) (phaseOf (s .ctl) q)
+  pub engine : (q : ℕ) → q < queues
+      → Serves (s .kinds) (s .lens) (wordsOf s) (leftOf s qs q) (postOf s q .hdp) (postOf s q .stage) (phaseOf (s .ctl) q)
   pub room : (q : ℕ) → q < queues → RoomIn (sideOf q) (s .kinds) (s .lens) (wordsOf s) (leftOf s qs q)

@@ -42,7 +42,8 @@ use Rattle.kinds.specs.Kinds.{inReception, kindNumber, judgeKind, kindChange}
 use Rattle.phases.specs.declared.Sending.{Sending}
 use Rattle.phases.specs.declared.Sending.the-variants as S
 use Rattle.controller.specs.Controller.{unguardedWrite}
-use Rattle.machine.specs.Machine.{Machine, Happened, worldOf, withWorld, carriedOut, Op, write, kind, frame, step, apply, applyWrite, applyKind, applyFrame, applyStep}
+use Rattle.machine.specs.Machine.{Machine, Happened, worldOf, withWorld, carriedOut, Op, write, kind, frame, step, apply, applyWrite}
+use Rattle.machine.specs.Machine.{applyKind, applyFrame, applyStep}
 use Rattle.safety.specs.Follows.{isOwned}
 use Rattle.safety.proofs.Inv.{Sendable, placeAfter, Fetched, TxInv, Phase, sending, taking, phaseOf, Serves, RoomIn, postOf, wordsOf}
 use Rattle.safety.proofs.Frame.{ready-map, through-map}
@@ -75,7 +76,8 @@ module _ (K : List ℕ) (b k : ℕ) (own : permits Transmit k ≡ true) (w : ℕ
   tx-kind : (L : List ℕ) (h n : ℕ) (ph : Sending) → TxInv K w L h n ph → TxInv (set K b k) w L h n ph
   tx-kind L h n S.Idle t = t
   tx-kind L h n S.New t = ready-map (Sendable K w Start) (Sendable (set K b k) w Start) L h n (sendable-kind Start L refl) t
-  tx-kind L h n (S.Within p) t = record { spot = t .spot; todo = sendable-kind (Middle (p .word3) (p .sum)) (t .spot .d ∷ t .spot .rs) refl (t .todo) }
+  tx-kind L h n (S.Within p) t =
+      record { spot = t .spot; todo = sendable-kind (Middle (p .word3) (p .sum)) (t .spot .d ∷ t .spot .rs) refl (t .todo) }
   tx-kind L h n (S.Moving r) t = record {
     fetched = fetched-kind L (t .fetched);
     some = t .some;
@@ -96,7 +98,8 @@ module _ (K : List ℕ) (b k : ℕ) (own : permits Transmit k ≡ true) (w : ℕ
     last = t .last;
     latch = t .latch;
   }
-  tx-kind L h n (S.Done l) t = through-map (Sendable K w Start) (Sendable (set K b k) w Start) L h n (l .next) (sendable-kind Start L refl) t
+  tx-kind L h n (S.Done l) t =
+      through-map (Sendable K w Start) (Sendable (set K b k) w Start) L h n (l .next) (sendable-kind Start L refl) t
 
   serves-kind : (lens L : List ℕ) (h n : ℕ) (ph : Phase) → Serves K lens w L h n ph → Serves (set K b k) lens w L h n ph
   serves-kind lens L h n (sending ph) t = tx-kind L h n ph t
@@ -177,8 +180,10 @@ kind-calm s c b k low high clear = record {
   bits = c .bits;
   ready = c .ready;
   duty = c .duty;
-  engine = λ q l. serves-kind (s .kinds) b k (kind-owned k low) (wordsOf s) (s .lens) (queueAt (c .qs) q) (postOf s q .hdp) (postOf s q .stage) (phaseOf (s .ctl) q) (c .engine q l);
-  room = λ q l. room-kind (sideOf q) (s .kinds) (s .lens) (wordsOf s) b k (queueAt (c .qs) q) clear (λ e. part-receiving (λ d. Fits (getD (s .lens) d 0)) q (c .qs) e (c .held .recorded .there)) (c .room q l);
+  engine = λ q l. serves-kind (s .kinds) b k (kind-owned k low) (wordsOf s) (s .lens) (queueAt (c .qs) q) (postOf s q .hdp)
+      (postOf s q .stage) (phaseOf (s .ctl) q) (c .engine q l);
+  room = λ q l. room-kind (sideOf q) (s .kinds) (s .lens) (wordsOf s) b k (queueAt (c .qs) q) clear
+      (λ e. part-receiving (λ d. Fits (getD (s .lens) d 0)) q (c .qs) e (c .held .recorded .there)) (c .room q l);
 }
 
 -- ---- whose a block is: "Kinds 1 to 4 are owned by Linux"
@@ -213,7 +218,8 @@ judgeKind-owned b k s i = at (judgeKind b k s) (kind-verdict b k s) (judgeKind-c
 
 carried-kinds : (a x : ℕ) (o : Outcome) (s : Machine) → carriedOut a x o s .machine .kinds ≡ o .world .kinds
 carried-kinds a x o s =
-    pick-holds kept (eqb (numberOf (o .answer)) 0) _ _ (pick-holds kept (eqb (unguardedWrite a x (s .ctl) (o .world .mem) .number) 0) _ _ refl refl) refl
+    pick-holds kept (eqb (numberOf (o .answer)) 0) _ _
+    (pick-holds kept (eqb (unguardedWrite a x (s .ctl) (o .world .mem) .number) 0) _ _ refl refl) refl
   where
     kept : Happened → Type 0
     kept h = h .machine .kinds ≡ o .world .kinds

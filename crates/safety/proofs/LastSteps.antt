@@ -25,7 +25,8 @@ use Rattle.queue.proofs.FreshLaws.{fresh-live}
 use Rattle.queue.proofs.NumberLaws.{queueAt}
 use Rattle.phases.specs.declared.Burst.the-variants.{Quiet}
 use Rattle.machine.specs.Machine.{Machine}
-use Rattle.safety.proofs.Inv.{Fit, Ready, Spot, Latch, Owned, Through, Phase, idle, Serves, Todo, Post, postOf, commonOf, wordsOf, modeOf, leftOf, TearingFits, Inv}
+use Rattle.safety.proofs.Inv.{Fit, Ready, Spot, Latch, Owned, Through, Phase, idle, Serves, Todo, Post, postOf, commonOf, wordsOf}
+use Rattle.safety.proofs.Inv.{modeOf, leftOf, TearingFits, Inv}
 use Rattle.safety.proofs.Frame.{lengths-same}
 use Rattle.safety.proofs.Serve.{todo-new}
 use Rattle.safety.proofs.Ends.{Top, good-start, spot-top, spot-is-top, spot-marked, owned-done}
@@ -71,7 +72,8 @@ pub record Closes (f : ℕ → ℕ) (x : ℕ) : Type 0 where
   pub whole : td (f x) ≡ td x
   pub given : owner (f x) ≡ false
 
-module _ (s : Machine) (i : Inv s) (q : ℕ) (l : q < queues) (side : Side) (ph : Phase) (o : Sided q ph) (t : TearingFits (commonOf s) (postOf s q) (idle ph)) where
+module _ (s : Machine) (i : Inv s) (q : ℕ) (l : q < queues) (side : Side) (ph : Phase) (o : Sided q ph)
+    (t : TearingFits (commonOf s) (postOf s q) (idle ph)) where
   abbrev here : Post
   here = postOf s q
 
@@ -88,7 +90,8 @@ module _ (s : Machine) (i : Inv s) (q : ℕ) (l : q < queues) (side : Side) (ph 
 
   pub mark-last : (first next : ℕ) (z : Spot (wordsOf s) L first (here .hdp) (here .stage)) → todo (wordsOf s) (z .rs)
       → (m : List ℕ) → Only (z .d) (wordsOf s) (word m) → Fit m
-      → owner (word m (z .d + 3)) ≡ owner (wordsOf s (z .d + 3)) → td (word m (z .d + 3)) ≡ td (wordsOf s (z .d + 3)) → eop (word m (z .d + 3)) ≡ true
+      → owner (word m (z .d + 3)) ≡ owner (wordsOf s (z .d + 3)) → td (word m (z .d + 3)) ≡ td (wordsOf s (z .d + 3))
+      → eop (word m (z .d + 3)) ≡ true
       → Latch (word m) (z .d) (z .rs) next
       → Allows (λ w ds. Owned (todo w) w ds first (here .hdp) (here .stage) next) (word m)
       → (a b : ℕ) → Fine s (went q ph (here .hdp) (here .cp) a b Quiet m (s .ctl))
@@ -97,7 +100,12 @@ module _ (s : Machine) (i : Inv s) (q : ℕ) (l : q < queues) (side : Side) (ph 
       (λ k. let y = spot-marked (wordsOf s) (word m) L first (here .hdp) (here .stage) z (k .before) own torn in
       rw (kept-live (word m) (z .cs ++ z .d ∷ z .rs) (y .live))
       (serves (z .cs ++ z .d ∷ z .rs)
-      (record { spot = y; todo = todo-same (s .kinds) (s .lens) side (wordsOf s) (word m) (z .rs) (k .behind) f; last = end; latch = latch })))
+      (record {
+        spot = y;
+        todo = todo-same (s .kinds) (s .lens) side (wordsOf s) (word m) (z .rs) (k .behind) f;
+        last = end;
+        latch = latch;
+      })))
 
   pub mark-first : (first next : ℕ) → Owned (todo (wordsOf s)) (wordsOf s) L first (here .hdp) (here .stage) next
       → (f : ℕ → ℕ) → ((x : ℕ) → x < 2 ^ 32 → Closes f x)
@@ -130,12 +138,14 @@ module _ (s : Machine) (i : Inv s) (q : ℕ) (l : q < queues) (side : Side) (ph 
           → Fine s (went q ph (here .hdp) (here .cp) a b Quiet (marked f e m) (s .ctl))
       at e x serves =
           rw x
-          (touch-fine s i q l ph o (here .hdp) (here .cp) a b (marked f d m) [] d (head .fs) (marked-only f d m) (marked-fits f d m (mark .small) (i .held .fit)) (head .is) t
+          (touch-fine s i q l ph o (here .hdp) (here .cp) a b (marked f d m) [] d (head .fs) (marked-only f d m)
+          (marked-fits f d m (mark .small) (i .held .fit)) (head .is) t
           (λ k. let v = word (marked f d m) in
           let r = owned-done (todo w) (todo v) w v L first (here .hdp) (here .stage) next own d (head .fs) (head .is) (k .behind)
           (ap eop there ∙ mark .end, ap eoq there ∙ mark .last) (ap td there ∙ mark .whole ∙ top .3) (ap owner there ∙ mark .given)
           (todo-same (s .kinds) (s .lens) side w v) (todo-live (s .kinds) (s .lens) side v) (todo-none (s .kinds) (s .lens) side v) in
-          (rw x at serves) _ (record { good = pointer-good (own .spot .here) (own .spot .small); stage = own .spot .stage; next = r .0; todo = r .1 })))
+          (rw x at serves) _ (record
+          { good = pointer-good (own .spot .here) (own .spot .small); stage = own .spot .stage; next = r .0; todo = r .1 })))
 
 -- ---- step 6
 

@@ -39,7 +39,8 @@ use Rattle.phases.specs.declared.Takes.{Takes}
 use Rattle.phases.specs.declared.Takes.the-variants as Takes
 use Rattle.phases.specs.Transmit.{sendStep, markEoq, clearOwn}
 use Rattle.phases.specs.Receive.{takeStep, markLast, markFirst}
-use Rattle.controller.specs.Controller.{StepDone, answer, txOf, rxOf, sendMoved, takeMoved, heldBack, quietEngine, transmitStep, receiveStep, tearMark, tearStep, allQuiet, resetStep, unlessUndefined, onChannel, stepOf}
+use Rattle.controller.specs.Controller.{StepDone, answer, txOf, rxOf, sendMoved, takeMoved, heldBack, quietEngine, transmitStep}
+use Rattle.controller.specs.Controller.{receiveStep, tearMark, tearStep, allQuiet, resetStep, unlessUndefined, onChannel, stepOf}
 use Rattle.machine.specs.Machine.{Machine}
 use Rattle.safety.proofs.Inv.{Spot, TxInv, RxInv, phaseOf, Post, postOf, wordsOf, leftOf, Inv}
 use Rattle.safety.proofs.Ends.{top-start, spot-top, spot-is-top}
@@ -55,7 +56,8 @@ pub data Own (s : Machine) (i : Inv s) (q : ℕ) : List ℕ → Type 0 where
 untouched : (w : ℕ → ℕ) (ds : List ℕ) → All (Same w w) ds
 untouched w ds = all-every (Same w w) (λ d. (refl, refl, refl, refl)) ds
 
-pub own-leaves : {s : Machine} {i : Inv s} {q : ℕ} {m : List ℕ} → Own s i q m → (j : ℕ) → j ≢ q → All (Same (wordsOf s) (word m)) (queueAt (i .qs) j)
+pub own-leaves : {s : Machine} {i : Inv s} {q : ℕ} {m : List ℕ} → Own s i q m → (j : ℕ) → j ≢ q
+    → All (Same (wordsOf s) (word m)) (queueAt (i .qs) j)
 own-leaves {s} {i} same j n = untouched (wordsOf s) (queueAt (i .qs) j)
 own-leaves {s} {i} {q} {m} (one cs d rs e o) j n = touch-leaves s i q m cs d rs o e j n
 
@@ -65,7 +67,8 @@ module _ (s : Machine) (i : Inv s) (q : ℕ) where
   abbrev L : List ℕ
   L = leftOf s (i .qs) q
 
-  named : (p : ℕ) (cs : List ℕ) (d : ℕ) (rs : List ℕ) → L ≡ cs ++ d ∷ rs → p ≡ addr d → {m : List ℕ} → Only (wordOf p) (wordsOf s) (word m) → Own s i q m
+  named : (p : ℕ) (cs : List ℕ) (d : ℕ) (rs : List ℕ) → L ≡ cs ++ d ∷ rs → p ≡ addr d → {m : List ℕ} → Only (wordOf p) (wordsOf s) (word m)
+      → Own s i q m
   named p cs d rs e a o = one cs (wordOf p) rs (rw (pointer-word a) e) o
 
   -- where an engine stands, and the first descriptor of its packet
@@ -107,7 +110,8 @@ module _ (s : Machine) (i : Inv s) (q : ℕ) where
   take-own lens h n cp (R.Ended e) t = same
   take-own lens h n cp (R.Last c) t =
       by-pick Took (ltb lengthMax (c .here)) _ _ (λ e. same)
-      (λ e. by-pick Took (goodPtr h) _ _ (λ g. at-spot (t .taken .spot) (last-marked-only (c .here) (c .next) (wordOf h) (s .mem))) (λ g. same))
+      (λ e. by-pick Took (goodPtr h) _ _ (λ g. at-spot (t .taken .spot) (last-marked-only (c .here) (c .next) (wordOf h) (s .mem)))
+      (λ g. same))
   take-own lens h n cp (R.First c) t =
       by-pick Took (ltb lengthMax (c .stored)) _ _ (λ e. same)
       (λ e. by-pick Took (goodPtr (c .first)) _ _
@@ -133,7 +137,8 @@ module _ (s : Machine) (i : Inv s) (ch : ℕ) (l : ch < channels) where
       let q = queueOf Sides.Transmit ch in
       let c = s .ctl in
       sent-own s i q ch (sendStep (heldBack c q) (s .mem) (txOf c ch) (hdpOf (c .state) q) (cpOf (c .state) q))
-      (send-own s i q (s .kinds) _ _ (cpOf (c .state) q) (heldBack c q) (txOf c ch) (rw (phase-queue Sides.Transmit c ch) at (i .engine q (queue-lt Sides.Transmit ch l))))
+      (send-own s i q (s .kinds) _ _ (cpOf (c .state) q) (heldBack c q) (txOf c ch)
+      (rw (phase-queue Sides.Transmit c ch) at (i .engine q (queue-lt Sides.Transmit ch l))))
 
   pub receive-own : Own s i (queueOf Sides.Receive ch) (receiveStep ch (s .ctl) (s .mem) .mem)
   unfolding receiveStep
@@ -141,7 +146,8 @@ module _ (s : Machine) (i : Inv s) (ch : ℕ) (l : ch < channels) where
       let q = queueOf Sides.Receive ch in
       let c = s .ctl in
       took-own s i q ch (takeStep (s .mem) (rxOf c ch) (hdpOf (c .state) q) (cpOf (c .state) q))
-      (take-own s i q (s .lens) _ _ (cpOf (c .state) q) (rxOf c ch) (rw (phase-queue Sides.Receive c ch) at (i .engine q (queue-lt Sides.Receive ch l))))
+      (take-own s i q (s .lens) _ _ (cpOf (c .state) q) (rxOf c ch)
+      (rw (phase-queue Sides.Receive c ch) at (i .engine q (queue-lt Sides.Receive ch l))))
 
 -- ---- the steps of a teardown
 
@@ -171,7 +177,8 @@ module _ (s : Machine) (i : Inv s) (q : ℕ) (l : q < queues) where
   next-own pending (inl r) = three Mine (here .stage) _ _ _ (λ e. none-own (idle-zero s i q l pending (r .rests))) (λ e. same) (λ a b. same)
   next-own pending (inr r) = three Mine (here .stage) _ _ _ (λ e. at e (r .state)) (λ e. same) (λ a b. same)
     where
-      at : here .stage ≡ 1 → ((here .stage ≡ 1) × (start (leftOf s (i .qs) q) ≡ here .hdp)) ⊎ ((here .stage ≡ 2) × (leftOf s (i .qs) q ≡ []))
+      at : here .stage ≡ 1
+          → ((here .stage ≡ 1) × (start (leftOf s (i .qs) q) ≡ here .hdp)) ⊎ ((here .stage ≡ 2) × (leftOf s (i .qs) q ≡ []))
           → Mine (tearMark q (s .ctl) (s .mem))
       at e (inl x) = mark-own (x .1) (r .good)
       at e (inr x) = absurd (omega (arith, e, x .0))
@@ -206,12 +213,14 @@ module _ (s : Machine) (i : Inv s) (j : ℕ) where
       by-pick Left (eqb (length (s .mem)) descBytes) _ _ (λ e. by-pick Left (s .ctl .undefined) _ _ (λ u. unmoved) (λ u. h)) (λ e. unmoved)
 
   -- there is such a channel, or the engine cannot move
-  channel-left : (ch : ℕ) (x : StepDone) → (ch < channels → Left x) → Left (unlessUndefined (s .ctl) (s .mem) (onChannel ch (s .ctl) (s .mem) x))
+  channel-left : (ch : ℕ) (x : StepDone) → (ch < channels → Left x)
+      → Left (unlessUndefined (s .ctl) (s .mem) (onChannel ch (s .ctl) (s .mem) x))
   channel-left ch x f = unless-left _ (by-pick Left (ltb ch channels) _ _ (λ e. f (ltb-true ch channels e)) (λ e. unmoved))
 
   pub step-leaves : (e : Engine) → Other e j → Left (stepOf e (s .ctl) (s .mem))
   unfolding stepOf resetStep
-  step-leaves Reset o = unless-left _ (by-pick Left (both (resetOf (s .ctl .state)) (allQuiet (s .ctl .channels))) _ _ (λ e. unmoved) (λ e. unmoved))
+  step-leaves Reset o =
+      unless-left _ (by-pick Left (both (resetOf (s .ctl .state)) (allQuiet (s .ctl .channels))) _ _ (λ e. unmoved) (λ e. unmoved))
   step-leaves (Transmit ch) o = channel-left ch _ (λ l. own-leaves (transmit-own s i ch l) j o)
   step-leaves (Receive ch) o = channel-left ch _ (λ l. own-leaves (receive-own s i ch l) j o)
   step-leaves (TearTransmit ch) o = channel-left ch _ (λ l. own-leaves (tear-own s i _ (queue-lt Sides.Transmit ch l)) j o)

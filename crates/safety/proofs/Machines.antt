@@ -35,13 +35,16 @@ use Rattle.phases.specs.declared.Frame.{Frame}
 use Rattle.phases.specs.declared.Engine.{Engine}
 use Rattle.phases.specs.declared.Engine.the-variants.{Reset, Transmit, Receive, TearTransmit, TearReceive}
 use Rattle.phases.specs.Quiet.{waits}
-use Rattle.controller.specs.Controller.{StepDone, idleChannel, rxOf, setRx, unlessUndefined, onChannel, stepOf, heldBack, Framed, frameOf, freshController}
+use Rattle.controller.specs.Controller.{StepDone, idleChannel, rxOf, setRx, unlessUndefined, onChannel, stepOf, heldBack, Framed, frameOf}
+use Rattle.controller.specs.Controller.{freshController}
 use Rattle.machine.specs.Machine.{Machine, Op, frame, step, apply, answerOf, withCtl, applyFrame, applyStep, freshMachine}
 use Rattle.safety.specs.Statement.{Safe}
-use Rattle.safety.proofs.Inv.{Fillable, Ready, Phase, sending, taking, phaseOf, Post, postOf, Common, commonOf, wordsOf, modeOf, leftOf, Table, Shared, TearingFits, Inv}
+use Rattle.safety.proofs.Inv.{Fillable, Ready, Phase, sending, taking, phaseOf, Post, postOf, Common, commonOf, wordsOf, modeOf}
+use Rattle.safety.proofs.Inv.{leftOf, Table, Shared, TearingFits, Inv}
 use Rattle.safety.proofs.Ends.{top-start}
 use Rattle.safety.proofs.Marks.{side-queue, channel-queue, queue-lt, phase-queue}
-use Rattle.safety.proofs.Touch.{Sided, setPhase, phase-here, fits-table, near-self, near-phase, Stands, shared-of, turn-of, move-near, Fine}
+use Rattle.safety.proofs.Touch.{Sided, setPhase, phase-here, fits-table, near-self, near-phase, Stands, shared-of, turn-of}
+use Rattle.safety.proofs.Touch.{move-near, Fine}
 use Rattle.safety.proofs.LastSteps.{left-linked}
 use Rattle.safety.proofs.TransmitSteps.{transmit-fine}
 use Rattle.safety.proofs.ReceiveSteps.{receive-fine}
@@ -62,7 +65,8 @@ answered n h = by-pick (λ a. numberOf a ≢ 22) (eqb n 0) _ _ (λ e. omega arit
 -- ---- a frame
 
 -- the record with another phase of queue q
-phase-stands : (s : Machine) → Inv s → (q : ℕ) → q < queues → (ph : Phase) → Sided q ph → Stands s (setPhase q ph (s .ctl)) q (postOf s q) ph
+phase-stands : (s : Machine) → Inv s → (q : ℕ) → q < queues → (ph : Phase) → Sided q ph
+    → Stands s (setPhase q ph (s .ctl)) q (postOf s q) ph
 phase-stands s i q l ph o = record {
   near = near-phase (near-self q (i .sized)) l ph o;
   post = at ph;
@@ -197,7 +201,15 @@ pub step-kept : (e : Engine) (s : Machine) → Inv s → Kept (step e) s
 unfolding applyStep
 step-kept e s i =
     let f = step-fine e s i in
-    record { safe = record { defined = inv-defined (f .inv); answered = answered (stepOf e (s .ctl) (s .mem) .number) (λ z. omega (arith, f .number, z)); inPlace = f .inPlace; spares = f .spares }; inv = f .inv }
+    record {
+      safe = record {
+        defined = inv-defined (f .inv);
+        answered = answered (stepOf e (s .ctl) (s .mem) .number) (λ z. omega (arith, f .number, z));
+        inPlace = f .inPlace;
+        spares = f .spares;
+      };
+      inv = f .inv;
+    }
 
 -- ---- a fresh machine
 

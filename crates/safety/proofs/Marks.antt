@@ -65,7 +65,8 @@ word-fits m k f = word-lt m k (f .bytes)
 pub marked-fits : (f : ℕ → ℕ) (d : ℕ) (m : List ℕ) → f (word m (d + 3)) < 2 ^ 32 → Fit m → Fit (marked f d m)
 marked-fits f d m b h = record { size = length-marked f d m ∙ h .size; bytes = marked-keeps-bytes f d m b (h .bytes) }
 
-pub marked-reads : (f : ℕ → ℕ) (d : ℕ) (m : List ℕ) → f (word m (d + 3)) < 2 ^ 32 → Fit m → d ≤ 2044 → word (marked f d m) (d + 3) ≡ f (word m (d + 3))
+pub marked-reads : (f : ℕ → ℕ) (d : ℕ) (m : List ℕ) → f (word m (d + 3)) < 2 ^ 32 → Fit m → d ≤ 2044
+    → word (marked f d m) (d + 3) ≡ f (word m (d + 3))
 marked-reads f d m b h l = word-marked-same f d m (h .size) l b
 
 -- receive step 4 writes words 2 and 3

@@ -62,7 +62,8 @@ change-number b k s i =
 -- ---- the machine
 
 -- where the controller answers 0 the guard's answer stands
-carried-answer : (a x : ℕ) (o : Outcome) (s : Machine) → (numberOf (o .answer) ≡ 0 → unguardedWrite a x (s .ctl) (o .world .mem) .number ≡ 0)
+carried-answer : (a x : ℕ) (o : Outcome) (s : Machine)
+    → (numberOf (o .answer) ≡ 0 → unguardedWrite a x (s .ctl) (o .world .mem) .number ≡ 0)
     → carriedOut a x o s .answer ≡ o .answer
 carried-answer a x o s f = at (eqb (numberOf (o .answer)) 0) refl
   where
@@ -74,17 +75,25 @@ carried-answer a x o s f = at (eqb (numberOf (o .answer)) 0) refl
 pub agrees : (s : Machine) → Inv s → Agrees (release (worldOf s)) (s .ctl)
 agrees s i =
     let c = release-calm s i in
-    record { alike = calm-alike (released s) c (release-loaded s i); here = c .sized .book .size; there = c .sized .ctl .size; defined = c .defined }
+    record {
+      alike = calm-alike (released s) c (release-loaded s i);
+      here = c .sized .book .size;
+      there = c .sized .ctl .size;
+      defined = c .defined;
+    }
 
 -- "22 controller undefined (model only)": a guarded write is answered by the guard alone
 pub answer-is : (a x : ℕ) (s : Machine) → Inv s → applyWrite a x s .answer ≡ guestWrite a x (worldOf s) .answer
 unfolding applyWrite guestWrite
-answer-is a x s i = carried-answer a x (admitted (worldOf s) (λ t. judge a x t)) s (numbered (admitted (worldOf s) (λ t. judge a x t)) (admitted-acts s i (λ t. judge a x t)))
+answer-is a x s i = carried-answer a x (admitted (worldOf s) (λ t. judge a x t)) s
+    (numbered (admitted (worldOf s) (λ t. judge a x t)) (admitted-acts s i (λ t. judge a x t)))
   where
-    numbered : (o : Outcome) → o ≡ judge a x (release (worldOf s)) → numberOf (o .answer) ≡ 0 → unguardedWrite a x (s .ctl) (o .world .mem) .number ≡ 0
+    numbered : (o : Outcome) → o ≡ judge a x (release (worldOf s)) → numberOf (o .answer) ≡ 0
+        → unguardedWrite a x (s .ctl) (o .world .mem) .number ≡ 0
     numbered o e z =
         subst (λ (y : Outcome). unguardedWrite a x (s .ctl) (y .world .mem) .number ≡ 0) (sym e)
-        (allowed a x (release (worldOf s)) (s .ctl) (agrees s i) (release-calm s i .held .fit .size) (ap (λ (y : Outcome). numberOf (y .answer)) (sym e) ∙ z) .number)
+        (allowed a x (release (worldOf s)) (s .ctl) (agrees s i) (release-calm s i .held .fit .size)
+        (ap (λ (y : Outcome). numberOf (y .answer)) (sym e) ∙ z) .number)
 
 pub write-number : (a x : ℕ) (s : Machine) → Inv s → Number (numberOf (apply (write a x) s .answer))
 write-number a x s i = subst (λ (y : Answer). Number (numberOf y)) (sym (answer-is a x s i)) (guest-number a x s i)

@@ -29,7 +29,8 @@ use Rattle.marks.specs.Marks.{lastMark, firstMark, marked, lastMarked}
 use Rattle.descriptor.specs.declared.Place.the-variants.{Buffer}
 use Rattle.descriptor.proofs.RuleLaws.{flagsFault-buffer, ownFault-parts}
 use Rattle.marks.proofs.MarkLaws.{word-lastMarked-flags}
-use Rattle.marks.proofs.FlagLaws.{eop-lastMark, eoq-lastMark, owner-lastMark, td-lastMark, owner-firstMark, eop-firstMark, eoq-firstMark, td-firstMark, firstMark-lt}
+use Rattle.marks.proofs.FlagLaws.{eop-lastMark, eoq-lastMark, owner-lastMark, td-lastMark, owner-firstMark, eop-firstMark, eoq-firstMark}
+use Rattle.marks.proofs.FlagLaws.{td-firstMark, firstMark-lt}
 use Rattle.queue.proofs.Queue.{start, Linked}
 use Rattle.queue.proofs.LinkLaws.{all-right}
 use Rattle.queue.proofs.StoreLaws.{last-marked-only}
@@ -47,11 +48,13 @@ use Rattle.phases.specs.declared.Takes.the-variants.{Went}
 use Rattle.phases.specs.Receive.{toPhase, tooLong, fetch, burstSize, advanced, storeBurst, close, markLast, markFirst, finish, takeStep}
 use Rattle.controller.specs.Controller.{rxOf, takeMoved, added, receiveStep}
 use Rattle.machine.specs.Machine.{Machine}
-use Rattle.safety.proofs.Inv.{Fillable, Roomy, Spot, Latched, Latch, Through, RxInv, idleRx, taking, Post, postOf, commonOf, wordsOf, leftOf, TearingFits, Inv}
+use Rattle.safety.proofs.Inv.{Fillable, Roomy, Spot, Latched, Latch, Through, RxInv, idleRx, taking, Post, postOf, commonOf}
+use Rattle.safety.proofs.Inv.{wordsOf, leftOf, TearingFits, Inv}
 use Rattle.safety.proofs.Ends.{latched, spot-linked, spot-next}
 use Rattle.safety.proofs.Marks.{side-queue, channel-queue, queue-lt, phase-queue, last-marked-fits, withRegs, turn-move, turn-done}
 use Rattle.safety.proofs.Touch.{Fine, went, move-fine}
-use Rattle.safety.proofs.LastSteps.{pointer-good, pointer-word, left-linked, spot-first, mark-last, mark-first, through-idle, through-ready}
+use Rattle.safety.proofs.LastSteps.{pointer-good, pointer-word, left-linked, spot-first, mark-last, mark-first, through-idle}
+use Rattle.safety.proofs.LastSteps.{through-ready}
 
 -- ---- what a step of a fit record computes to
 
@@ -77,10 +80,15 @@ unfolding firstByte
 receive-first x1 x2 x3 = refl
 
 burst-is : (s : Storing) (h cp : ℕ) → 1 ≤ s .left → 1 ≤ s .room → s .stored + s .left ≤ lengthMax → s .at + s .room ≤ addressEnd
-    → storeBurst s h cp ≡ Went (record { state = advanced s (burstSize s); hdp = h; cp = cp; burst = Store (s .at) (burstSize s); octets = 0 })
+    → storeBurst s h cp ≡ Went
+    (record { state = advanced s (burstSize s); hdp = h; cp = cp; burst = Store (s .at) (burstSize s); octets = 0 })
 unfolding storeBurst
 burst-is s h cp a b c e =
-    simp (not-long (s .stored) (s .left) c, ne-eqb (min (s .room) (s .left)) 0 (λ z. omega (arith, z, a, b)), le-ltb addressEnd (s .at + s .room) e)
+    simp (
+      not-long (s .stored) (s .left) c,
+      ne-eqb (min (s .room) (s .left)) 0 (λ z. omega (arith, z, a, b)),
+      le-ltb addressEnd (s .at + s .room) e,
+    )
 
 -- ---- the engine of a channel
 
@@ -114,11 +122,13 @@ module _ (s : Machine) (i : Inv s) (ch : ℕ) (l : ch < channels) where
   -- ---- a step that goes on
 
   takes : (r : Took) (m : List ℕ)
-      → Fine s (went q (taking (r .state)) (r .hdp) (r .cp) (s .ctl .sent) (added (s .ctl .received) (r .octets)) (r .burst) m (s .ctl)) → After (Went r) m
+      → Fine s (went q (taking (r .state)) (r .hdp) (r .cp) (s .ctl .sent) (added (s .ctl .received) (r .octets)) (r .burst) m (s .ctl))
+      → After (Went r) m
   takes r m f = rw (channel-queue Receive ch) at f
 
   -- no burst, and memory as it was
-  quietly : (ph : Receiving) (h cp : ℕ) → TearingFits (commonOf s) (withRegs h cp here) (idleRx ph) → Stands h ph → After (toPhase ph h cp) (s .mem)
+  quietly : (ph : Receiving) (h cp : ℕ) → TearingFits (commonOf s) (withRegs h cp here) (idleRx ph) → Stands h ph
+      → After (toPhase ph h cp) (s .mem)
   quietly ph h cp t e = takes _ (s .mem) (move-fine s i q (queue-lt Receive ch l) (taking ph) (side-queue Receive ch) h cp _ _ Quiet tt t e)
 
   module _ (t : TearingFits (commonOf s) here false) where
@@ -132,7 +142,8 @@ module _ (s : Machine) (i : Inv s) (ch : ℕ) (l : ch < channels) where
         let own = ownFault-parts Buffer (w (d + 1)) (w (d + 2)) (w (d + 3)) (e .todo .fresh .0) in
         let flags = flagsFault-buffer (w (d + 3)) (own .0) in
         let fits = length-fits Receive (w (d + 1)) (w (d + 2)) (w (d + 3)) (own .1) in
-        let end : w (d + 1) + lengthOf Receive (w (d + 2)) ≤ addressEnd = rw (receive-first (w (d + 1)) (w (d + 2)) (w (d + 3))) at (fits .last) in
+        let end : w (d + 1) + lengthOf Receive (w (d + 2)) ≤ addressEnd =
+        rw (receive-first (w (d + 1)) (w (d + 2)) (w (d + 3))) at (fits .last) in
         rw (fetch-is w f (here .hdp) (here .cp) d (z .here) (z .small) (e .short) (fetch-good w Buffer d (z .rs) (e .todo .fresh) (lk .1)))
         (quietly _ (here .hdp) (here .cp) t
         (record {
@@ -157,7 +168,8 @@ module _ (s : Machine) (i : Inv s) (ch : ℕ) (l : ch < channels) where
     moving-fine r e =
         rw (burst-is r (here .hdp) (here .cp) (e .more) (e .some) (e .short) (e .below))
         (takes _ (s .mem)
-        (move-fine s i q (queue-lt Receive ch l) (taking (advanced r n)) (side-queue Receive ch) (here .hdp) (here .cp) _ _ (Store (r .at) n)
+        (move-fine s i q (queue-lt Receive ch l) (taking (advanced r n)) (side-queue Receive ch) (here .hdp) (here .cp) _ _
+        (Store (r .at) n)
         (λ x a b. room-free Receive (s .kinds) (w (z .d + 1)) long free (omega (arith, e .some, e .from, e .until)) x
         (omega (arith, a, e .from), omega (arith, b, e .until)))
         (on-turn (both (ltb n (r .room)) (ltb n (r .left)))) (on (both (ltb n (r .room)) (ltb n (r .left))) refl)))
@@ -175,10 +187,18 @@ module _ (s : Machine) (i : Inv s) (ch : ℕ) (l : ch < channels) where
         free = all-right _ (z .cs) (z .d ∷ z .rs) (rw (z .split) at roomy) .0
 
         more : Receiving
-        more = Moving (record { first = r .first; stored = r .stored + n; left = r .left - n; at = r .at + n; room = r .room - n; here = min (r .here + n) wordMax })
+        more = Moving (record {
+          first = r .first;
+          stored = r .stored + n;
+          left = r .left - n;
+          at = r .at + n;
+          room = r .room - n;
+          here = min (r .here + n) wordMax;
+        })
 
         ended : Receiving
-        ended = Ended (record { first = r .first; stored = r .stored + n; left = r .left - n; room = r .room - n; here = min (r .here + n) wordMax })
+        ended = Ended (record
+            { first = r .first; stored = r .stored + n; left = r .left - n; room = r .room - n; here = min (r .here + n) wordMax })
 
         on-turn : (b : Bool) → TearingFits (commonOf s) here (idleRx (pick b more ended))
         on-turn true = t
@@ -205,7 +225,8 @@ module _ (s : Machine) (i : Inv s) (ch : ℕ) (l : ch < channels) where
     ended-fine : (f : Filled) → Stands (here .hdp) (Ended f) → After (close w f (here .hdp) (here .cp)) (s .mem)
     unfolding close
     ended-fine f e =
-        rw (not-long (f .stored) (f .left) (e .short), pointer-good (z .here) (z .small), pointer-word (z .here)) (at (both full (not (eqb (w (z .d)) 0))) refl)
+        rw (not-long (f .stored) (f .left) (e .short), pointer-good (z .here) (z .small), pointer-word (z .here))
+        (at (both full (not (eqb (w (z .d)) 0))) refl)
       where
         z : Spot w L (f .first) (here .hdp) (here .stage)
         z = e .taken .spot
@@ -246,14 +267,17 @@ module _ (s : Machine) (i : Inv s) (ch : ℕ) (l : ch < channels) where
 
     -- ---- step 4
 
-    last-fine : (r : Stored) → Stands (here .hdp) (Last r) → Fine s (takeMoved ch (markLast (s .mem) r (here .hdp) (here .cp)) (s .ctl) (s .mem))
+    last-fine : (r : Stored) → Stands (here .hdp) (Last r)
+        → Fine s (takeMoved ch (markLast (s .mem) r (here .hdp) (here .cp)) (s .ctl) (s .mem))
     unfolding markLast
     last-fine r e =
         rw (le-ltb lengthMax (r .here) (omega (arith, few)), pointer-good (z .here) (z .small), pointer-word (z .here))
         (takes _ m
-        (mark-last s i q (queue-lt Receive ch l) Receive (taking (First r)) (side-queue Receive ch) t (r .first) (r .next) z (e .taken .todo) m
+        (mark-last s i q (queue-lt Receive ch l) Receive (taking (First r)) (side-queue Receive ch) t (r .first) (r .next) z
+        (e .taken .todo) m
         (last-marked-only (r .here) (r .next) (z .d) (s .mem)) (last-marked-fits (r .here) (r .next) (z .d) (s .mem) few (i .held .fit))
-        (ap owner there ∙ owner-lastMark (r .next) x) (ap td there ∙ td-lastMark (r .next) x) (ap eop there ∙ eop-lastMark (r .next) x) (latch (e .latch))
+        (ap owner there ∙ owner-lastMark (r .next) x) (ap td there ∙ td-lastMark (r .next) x) (ap eop there ∙ eop-lastMark (r .next) x)
+        (latch (e .latch))
         (λ ds o. record { owned = o; short = e .short }) _ _))
       where
         z : Spot w L (r .first) (here .hdp) (here .stage)
@@ -277,12 +301,14 @@ module _ (s : Machine) (i : Inv s) (ch : ℕ) (l : ch < channels) where
 
     -- ---- step 5
 
-    first-fine : (r : Stored) → Stands (here .hdp) (First r) → Fine s (takeMoved ch (markFirst (s .mem) r (here .hdp) (here .cp)) (s .ctl) (s .mem))
+    first-fine : (r : Stored) → Stands (here .hdp) (First r)
+        → Fine s (takeMoved ch (markFirst (s .mem) r (here .hdp) (here .cp)) (s .ctl) (s .mem))
     unfolding markFirst
     first-fine r e =
         rw (le-ltb lengthMax (r .stored) (e .short), spot-first w L (e .owned .spot) linked)
         (takes _ (marked mark (wordOf (r .first)) (s .mem))
-        (mark-first s i q (queue-lt Receive ch l) Receive (taking (Done (record { next = r .next }))) (side-queue Receive ch) t (r .first) (r .next) (e .owned) mark
+        (mark-first s i q (queue-lt Receive ch l) Receive (taking (Done (record { next = r .next }))) (side-queue Receive ch) t (r .first)
+        (r .next) (e .owned) mark
         (λ x b. record {
           small = firstMark-lt (r .stored) (r .overrun) x short b;
           end = eop-firstMark (r .stored) (r .overrun) x short;
@@ -306,7 +332,8 @@ module _ (s : Machine) (i : Inv s) (ch : ℕ) (l : ch < channels) where
       where
         at : (b : Bool) → eqb n 0 ≡ b → After (toPhase (pick b Idle Wait) n (here .hdp)) (s .mem)
         at true e = quietly Idle n (here .hdp) (turn-done t (r .good) n true (λ x. eqb-true n 0 e)) (through-idle _ L r (eqb-true n 0 e))
-        at false e = quietly Wait n (here .hdp) (turn-done t (r .good) n false (λ x. clash x refl)) (through-ready _ L r w linked (eqb-false n 0 e))
+        at false e = quietly Wait n (here .hdp) (turn-done t (r .good) n false (λ x. clash x refl))
+            (through-ready _ L r w linked (eqb-false n 0 e))
 
   -- ---- every step
 

@@ -26,11 +26,13 @@ use Rattle.words.specs.Word.{word}
 use Rattle.words.specs.WordSet.{has, freeAt, freeCount}
 use Rattle.blocks.specs.Room.{roomOf, isFree}
 use Rattle.descriptor.specs.Fields.{sop, eop, owner, eoq, td, packetLength, lengthOf, firstByte}
-use Rattle.descriptor.specs.Rules.{sideAt, offsetBad, flagsFault, endFlagsFault, lengthFault, endFault, sumAt, sumFault, behind, endsAt, nextFault}
+use Rattle.descriptor.specs.Rules.{sideAt, offsetBad, flagsFault, endFlagsFault, lengthFault, endFault, sumAt, sumFault, behind, endsAt}
+use Rattle.descriptor.specs.Rules.{nextFault}
 use Rattle.descriptor.specs.declared.Place.{Place}
 use Rattle.descriptor.specs.declared.Place.the-variants.{Start, Middle, Buffer}
 use Rattle.registers.specs.Table.{headOf, awaiting, headsOf, isDevice}
-use Rattle.registers.specs.Rules.{teardownDone, zeroingFault, headFault, ackFault, teardownFault, resetFault, zeroFault, headNumber, registerFault}
+use Rattle.registers.specs.Rules.{teardownDone, zeroingFault, headFault, ackFault, teardownFault, resetFault, zeroFault, headNumber}
+use Rattle.registers.specs.Rules.{registerFault}
 use Rattle.registers.proofs.TableLaws.{isDevice-head}
 use Rattle.chain.specs.Chain.{JSt, JOut, placeOf, blockFault, descFault, judgeStep, chainOf}
 use Rattle.book.specs.declared.Mode.{Mode}
@@ -42,7 +44,8 @@ use Rattle.queue.proofs.CallLaws.{byClass-holds}
 use Rattle.guard.specs.declared.Answer.the-variants.{Accepted}
 use Rattle.guard.specs.declared.Effect.{Effect}
 use Rattle.guard.specs.Answers.{numberOf, Outcome, accept, refuse}
-use Rattle.guard.specs.Judges.{judgeChain, judgeStart, judgeHead, judgeRegister, tailIn, judgeAppend, atTail, judgeLast, judgeWord, judgeClass, judge}
+use Rattle.guard.specs.Judges.{judgeChain, judgeStart, judgeHead, judgeRegister, tailIn, judgeAppend, atTail, judgeLast, judgeWord}
+use Rattle.guard.specs.Judges.{judgeClass, judge}
 use Rattle.guard.specs.declared.Tail.{Tail}
 use Rattle.guard.specs.declared.Tail.the-variants.{Of, Nobody}
 use Rattle.guard.specs.Guard.{admitted, guestWrite}
@@ -101,7 +104,8 @@ zeroFault-number v = pick-number (eqb v 0) _ _ none refl
 registerFault-number : (t : List ℕ) (n v : ℕ) → Number (registerFault t n v)
 unfolding registerFault
 registerFault-number t n v =
-    byClass-holds Number n _ _ _ _ _ _ _ _ (λ h. headFault-number _ _ _ _ v) (λ q h. ackFault-number _ v) (λ x h. teardownFault-number _ _ _ _ v) (resetFault-number _ _ _ v) (zeroFault-number v) none refl refl
+    byClass-holds Number n _ _ _ _ _ _ _ _ (λ h. headFault-number _ _ _ _ v) (λ q h. ackFault-number _ v)
+    (λ x h. teardownFault-number _ _ _ _ v) (resetFault-number _ _ _ v) (zeroFault-number v) none refl refl
 
 -- ---- a chain: 12 to 17
 
@@ -153,16 +157,20 @@ descFault-number : (kinds : List ℕ) (w : ℕ → ℕ) (pl : Place) (d : ℕ) �
 unfolding descFault
 descFault-number kinds w pl d =
     orElse-number (flagsFault pl (w (d + 3))) _ (flagsFault-number pl (w (d + 3)))
-    (orElse-number (lengthFault (sideAt pl) (w (d + 1)) (w (d + 2)) (w (d + 3))) _ (lengthFault-number (sideAt pl) (w (d + 1)) (w (d + 2)) (w (d + 3)))
-    (orElse-number (blockFault kinds (sideAt pl) (w (d + 1)) (w (d + 2)) (w (d + 3))) _ (blockFault-number kinds (sideAt pl) (w (d + 1)) (w (d + 2)) (w (d + 3)))
-    (orElse-number (sumFault pl (w (d + 2)) (w (d + 3))) _ (sumFault-number pl (w (d + 2)) (w (d + 3))) (nextFault-number (behind pl (w (d + 2)) (w (d + 3))) (w d)))))
+    (orElse-number (lengthFault (sideAt pl) (w (d + 1)) (w (d + 2)) (w (d + 3))) _
+    (lengthFault-number (sideAt pl) (w (d + 1)) (w (d + 2)) (w (d + 3)))
+    (orElse-number (blockFault kinds (sideAt pl) (w (d + 1)) (w (d + 2)) (w (d + 3))) _
+    (blockFault-number kinds (sideAt pl) (w (d + 1)) (w (d + 2)) (w (d + 3)))
+    (orElse-number (sumFault pl (w (d + 2)) (w (d + 3))) _ (sumFault-number pl (w (d + 2)) (w (d + 3)))
+    (nextFault-number (behind pl (w (d + 2)) (w (d + 3))) (w d)))))
 
 -- what holds of every answer that a step stops with holds of the walk's
 abbrev Stops : {S R : Type 0} → (R → Type 0) → Next S R → Type 0
 Stops P (go t) = Unit
 Stops P (stop r) = P r
 
-module _ {S R : Type 0} (step : S → Next S R) (out : S → R) (P : R → Type 0) (outs : (s : S) → P (out s)) (stops : (s : S) → Stops P (step s)) where
+module _ {S R : Type 0} (step : S → Next S R) (out : S → R) (P : R → Type 0) (outs : (s : S) → P (out s)) (stops : (s : S)
+    → Stops P (step s)) where
   runFor-holds : (n : ℕ) (s : S) → P (runFor step out n s)
   runFor-holds zero s = outs s
   runFor-holds (suc n) s = at (step s) (stops s) (λ t. runFor-holds n t)
@@ -231,7 +239,8 @@ verdict-fault s n x k v = at (eqb n 0) k
 
 start-verdict : (q p : ℕ) (s : World) → Verdict s (judgeStart q p s)
 start-verdict q p s =
-    verdict-fault s (judgeChain (sideOf q) p s .0) _ (chainOf-number (s .kinds) (word (s .mem)) (placeOf (sideOf q)) (s .used) p) (accepted s _ _)
+    verdict-fault s (judgeChain (sideOf q) p s .0) _ (chainOf-number (s .kinds) (word (s .mem)) (placeOf (sideOf q)) (s .used) p)
+    (accepted s _ _)
 
 head-verdict : (q v : ℕ) (s : World) → Verdict s (judgeHead q v s)
 unfolding judgeHead
@@ -247,7 +256,8 @@ register-verdict n v s = verdict-fault s (registerFault (s .state) n v) _ (regis
 append-verdict : (q k p : ℕ) (s : World) → Verdict s (judgeAppend q k p s)
 unfolding judgeAppend
 append-verdict q k p s =
-    verdict-fault s (judgeChain (sideOf q) p s .0) _ (chainOf-number (s .kinds) (word (s .mem)) (placeOf (sideOf q)) (s .used) p) (accepted s _ _)
+    verdict-fault s (judgeChain (sideOf q) p s .0) _ (chainOf-number (s .kinds) (word (s .mem)) (placeOf (sideOf q)) (s .used) p)
+    (accepted s _ _)
 
 last-verdict : (k v : ℕ) (s : World) → Verdict s (judgeLast k v s)
 unfolding judgeLast
@@ -307,8 +317,10 @@ release-registers s k d =
     let w = word (s .mem) in
     let r = releasedAll w (releaseMode (s .state)) (headsOf (s .state)) (s .used, s .lens) in
     ap (λ (t : World). getD (t .state) k 0) (release-parts s (r .0) (r .1) refl)
-    ∙ flags-other (withHeads (r .0) (s .state)) k (λ e. clash d (ap isDevice e)) (λ e. clash d (ap isDevice e)) (λ e. clash d (ap isDevice e))
-    ∙ withHeads-other (r .0) (s .state) (length-heads w (releaseMode (s .state)) (headsOf (s .state)) (s .used, s .lens)) k (past (ltb k queues) refl)
+    ∙ flags-other (withHeads (r .0) (s .state)) k (λ e. clash d (ap isDevice e)) (λ e. clash d (ap isDevice e))
+    (λ e. clash d (ap isDevice e))
+    ∙ withHeads-other (r .0) (s .state) (length-heads w (releaseMode (s .state)) (headsOf (s .state)) (s .used, s .lens)) k
+    (past (ltb k queues) refl)
   where
     past : (b : Bool) → ltb k queues ≡ b → queues ≤ k
     past true e = clash d (isDevice-head k (ltb-true k queues e))
@@ -342,7 +354,10 @@ admitted-leaves s act verdict =
     judged : (o : Outcome) → Verdict (release s) o → Leaves s o
     judged o (inl r) =
         let n : numberOf (o .answer) ≡ r .number = ap (λ (x : Outcome). numberOf (x .answer)) (r .is) in (
-          ((λ e. absurd (refuses-not (r .number) 1 (r .told) refl (sym n ∙ e))), (λ e. absurd (refuses-not (r .number) 2 (r .told) refl (sym n ∙ e)))),
+          (
+            (λ e. absurd (refuses-not (r .number) 1 (r .told) refl (sym n ∙ e))),
+            (λ e. absurd (refuses-not (r .number) 2 (r .told) refl (sym n ∙ e))),
+          ),
           (λ a b c. (release-untouched s o (ap (λ (x : Outcome). x .world) (r .is)), rw n (r .told))),
         )
     judged o (inr x) =

@@ -73,7 +73,8 @@ module _ (a v : ℕ) (s : Machine) (c : Calm s) (l : Loaded s) (whole : eqb (a %
   register-passes h = passes-fault a v s (registerFault (s .state) n v) _ (bookOf s) (quiet-passes (inl h))
 
   -- "a start sets HDP and the book's head, words and lengths"
-  start-passes : n < hdpClass + queues → awaiting (s .ctl .state) ≡ false → headNumber (s .state) q v ≡ 0 → headOf (s .state) q ≡ 0 → Passes a v s (judgeStart q v (bookOf s))
+  start-passes : n < hdpClass + queues → awaiting (s .ctl .state) ≡ false → headNumber (s .state) q v ≡ 0 → headOf (s .state) q ≡ 0
+      → Passes a v s (judgeStart q v (bookOf s))
   start-passes h w z e =
       let f : headNumber (s .ctl .state) q v ≡ 0 = sym (head-alike (calm-alike s c l) q v (omega arith)) ∙ z in
       passes-fault a v s (judgeChain (sideOf q) v (bookOf s) .0) _ (bookOf s)
@@ -86,7 +87,8 @@ module _ (a v : ℕ) (s : Machine) (c : Calm s) (l : Loaded s) (whole : eqb (a %
   head-passes h =
       passes-fault a v s (headNumber (s .state) q v) _ (bookOf s)
       (λ z. passes-pick a v s (awaiting (s .state)) _ _
-      (λ w. rw (head-written (s .state) n v h) at (quiet-passes (inr (sym (awaiting-alike (calm-alike s c l)) ∙ w)) (head-fault (s .state) n v h ∙ z)))
+      (λ w. rw (head-written (s .state) n v h) at
+      (quiet-passes (inr (sym (awaiting-alike (calm-alike s c l)) ∙ w)) (head-fault (s .state) n v h ∙ z)))
       (λ w. passes-pick a v s (eqb (headOf (s .state) q) 0) _ _
       (λ e. start-passes h (sym (awaiting-alike (calm-alike s c l)) ∙ w) z (eqb-true (headOf (s .state) q) 0 e))
       (λ e. passes-refuse a v s 10 (bookOf s) (omega arith))))
@@ -94,4 +96,5 @@ module _ (a v : ℕ) (s : Machine) (c : Calm s) (l : Loaded s) (whole : eqb (a %
   pub class-passes : Passes a v s (judgeClass n v (bookOf s))
   unfolding judgeClass
   class-passes =
-      passes-pick a v s (ltb n (hdpClass + queues)) _ _ (λ e. head-passes (ltb-true n (hdpClass + queues) e)) (λ e. register-passes (ltb-false n (hdpClass + queues) e))
+      passes-pick a v s (ltb n (hdpClass + queues)) _ _ (λ e. head-passes (ltb-true n (hdpClass + queues) e))
+      (λ e. register-passes (ltb-false n (hdpClass + queues) e))

@@ -24,10 +24,24 @@ use Rattle.layout.specs.Layout.{queues, marks}
 use Rattle.layout.specs.Class.{hdpClass}
 use Rattle.layout.proofs.ChoiceLaws.{clash, pick-holds}
 use Rattle.layout.proofs.BitLaws.{bit-setBit-other}
-use Rattle.registers.specs.Table.{stateWords, marksAt, resetAt, bitAt, headOf, hdpOf, cpOf, marksOf, tearingsOf, tearingOf, awaiting, anyTearing, resetOf, bitOf, setHdp, setCp, setMarks, setMark, setTearings, setTearing, setReset, isDevice, flagsFit}
+use Rattle.registers.specs.Table.{stateWords, marksAt, resetAt, bitAt, headOf, hdpOf, cpOf, marksOf, tearingsOf, tearingOf, awaiting}
+use Rattle.registers.specs.Table.{anyTearing, resetOf, bitOf, setHdp, setCp, setMarks, setMark, setTearings, setTearing, setReset}
+use Rattle.registers.specs.Table.{isDevice, flagsFit}
 use Rattle.registers.specs.Rules.{teardownDone, tearQueue, headNumber, registerFault, headWritten, ackWritten, resetWritten, written}
-use Rattle.registers.proofs.TableLaws.{length-setHdp, headOf-setHdp, hdpOf-setHdp-same, hdpOf-setHdp-other, marksOf-setHdp, tearingsOf-setHdp, resetOf-setHdp, bitOf-setHdp, length-setCp, headOf-setCp, hdpOf-setCp, cpOf-setCp-same, cpOf-setCp-other, marksOf-setCp, awaiting-setCp, tearingsOf-setCp, tearingOf-setCp, resetOf-setCp, bitOf-setCp, length-setMarks, headOf-setMarks, hdpOf-setMarks, marksOf-setMarks, tearingsOf-setMarks, resetOf-setMarks, bitOf-setMarks, length-setTearings, headOf-setTearings, hdpOf-setTearings, cpOf-setTearings, marksOf-setTearings, awaiting-setTearings, resetOf-setTearings, bitOf-setTearings, tearingOf-setTearing-same, tearingOf-setTearing-other, length-setReset, headOf-setReset, hdpOf-setReset, marksOf-setReset, awaiting-setReset, resetOf-setReset, tearingOf-setReset, length-setResetBit, headOf-setResetBit, hdpOf-setResetBit, marksOf-setResetBit, awaiting-setResetBit, tearingOf-setResetBit, resetOf-setResetBit, bitOf-setResetBit, anyTearing-none, getD-loaded, isDevice-register, flagsFit-setHdp, flagsFit-setCp, flagsFit-setResetBit, flagsFit-setReset, flagsFit-setMark, flagsFit-setTearing}
-use Rattle.registers.proofs.RegisterLaws.{headWritten-zero, ackWritten-zero, ackWritten-same, ackWritten-other, tearQueue-lt, headFault-zero, teardownFault-none, resetFault-none}
+use Rattle.registers.proofs.TableLaws.{length-setHdp, headOf-setHdp, hdpOf-setHdp-same, hdpOf-setHdp-other, marksOf-setHdp}
+use Rattle.registers.proofs.TableLaws.{tearingsOf-setHdp, resetOf-setHdp, bitOf-setHdp, length-setCp, headOf-setCp, hdpOf-setCp}
+use Rattle.registers.proofs.TableLaws.{cpOf-setCp-same, cpOf-setCp-other, marksOf-setCp, awaiting-setCp, tearingsOf-setCp, tearingOf-setCp}
+use Rattle.registers.proofs.TableLaws.{resetOf-setCp, bitOf-setCp, length-setMarks, headOf-setMarks, hdpOf-setMarks, marksOf-setMarks}
+use Rattle.registers.proofs.TableLaws.{tearingsOf-setMarks, resetOf-setMarks, bitOf-setMarks, length-setTearings, headOf-setTearings}
+use Rattle.registers.proofs.TableLaws.{hdpOf-setTearings, cpOf-setTearings, marksOf-setTearings, awaiting-setTearings, resetOf-setTearings}
+use Rattle.registers.proofs.TableLaws.{bitOf-setTearings, tearingOf-setTearing-same, tearingOf-setTearing-other, length-setReset}
+use Rattle.registers.proofs.TableLaws.{headOf-setReset, hdpOf-setReset, marksOf-setReset, awaiting-setReset, resetOf-setReset}
+use Rattle.registers.proofs.TableLaws.{tearingOf-setReset, length-setResetBit, headOf-setResetBit, hdpOf-setResetBit, marksOf-setResetBit}
+use Rattle.registers.proofs.TableLaws.{awaiting-setResetBit, tearingOf-setResetBit, resetOf-setResetBit, bitOf-setResetBit}
+use Rattle.registers.proofs.TableLaws.{anyTearing-none, getD-loaded, isDevice-register, flagsFit-setHdp, flagsFit-setCp}
+use Rattle.registers.proofs.TableLaws.{flagsFit-setResetBit, flagsFit-setReset, flagsFit-setMark, flagsFit-setTearing}
+use Rattle.registers.proofs.RegisterLaws.{headWritten-zero, ackWritten-zero, ackWritten-same, ackWritten-other, tearQueue-lt}
+use Rattle.registers.proofs.RegisterLaws.{headFault-zero, teardownFault-none, resetFault-none}
 use Rattle.queue.proofs.NumberLaws.{each, queueAt}
 use Rattle.queue.proofs.CallLaws.{byClass-holds, byClass-both}
 use Rattle.phases.specs.declared.Sending.{Sending}
@@ -37,7 +51,8 @@ use Rattle.phases.specs.declared.Receiving.the-variants as R
 use Rattle.controller.specs.Controller.{stageOf, setState, startsEngine}
 use Rattle.machine.specs.Machine.{Machine}
 use Rattle.safety.specs.Follows.{Alike}
-use Rattle.safety.proofs.Inv.{TxInv, idleTx, RxInv, idleRx, Phase, sending, taking, phaseOf, idle, Serves, postOf, commonOf, wordsOf, Table}
+use Rattle.safety.proofs.Inv.{TxInv, idleTx, RxInv, idleRx, Phase, sending, taking, phaseOf, idle, Serves, postOf, commonOf}
+use Rattle.safety.proofs.Inv.{wordsOf, Table}
 use Rattle.safety.proofs.Touch.{phase-channels, table-fits, fits-table}
 use Rattle.safety.proofs.Calm.{Duty, Calm, Loaded}
 use Rattle.safety.proofs.Allowed.{marks-alike, tearings-alike, reset-alike, written-alike}
@@ -54,7 +69,8 @@ tx-idle K w L h n h′ (S.Marking c) e t = clash e refl
 tx-idle K w L h n h′ (S.Owning c) e t = clash e refl
 tx-idle K w L h n h′ (S.Done l) e t = clash e refl
 
-rx-idle : (lens : List ℕ) (w : ℕ → ℕ) (L : List ℕ) (h n h′ : ℕ) (ph : Receiving) → idleRx ph ≡ true → RxInv lens w L h n ph → RxInv lens w L h′ n ph
+rx-idle : (lens : List ℕ) (w : ℕ → ℕ) (L : List ℕ) (h n h′ : ℕ) (ph : Receiving) → idleRx ph ≡ true → RxInv lens w L h n ph
+    → RxInv lens w L h′ n ph
 rx-idle lens w L h n h′ R.Idle e t = t
 rx-idle lens w L h n h′ R.Wait e t = clash e refl
 rx-idle lens w L h n h′ (R.Fetch f) e t = clash e refl
@@ -64,7 +80,8 @@ rx-idle lens w L h n h′ (R.Last s) e t = clash e refl
 rx-idle lens w L h n h′ (R.First s) e t = clash e refl
 rx-idle lens w L h n h′ (R.Done l) e t = clash e refl
 
-serves-idle : (K lens : List ℕ) (w : ℕ → ℕ) (L : List ℕ) (h n h′ : ℕ) (ph : Phase) → idle ph ≡ true → Serves K lens w L h n ph → Serves K lens w L h′ n ph
+serves-idle : (K lens : List ℕ) (w : ℕ → ℕ) (L : List ℕ) (h n h′ : ℕ) (ph : Phase) → idle ph ≡ true → Serves K lens w L h n ph
+    → Serves K lens w L h′ n ph
 serves-idle K lens w L h n h′ (sending ph) e t = tx-idle K w L h n h′ ph e t
 serves-idle K lens w L h n h′ (taking ph) e t = rx-idle lens w L h n h′ ph e t
 
@@ -119,19 +136,25 @@ module _ (s : Machine) (c : Calm s) where
   head-goes q x h w z =
       let t = setHdp q x u in
       let m = setBit q (marksOf t) in
-      zero-goes w (setMarks m t) (tearingsOf-setMarks t m ∙ tearingsOf-setHdp u q x h) (resetOf-setMarks t m ∙ resetOf-setHdp u q x h) (bitOf-setMarks t m ∙ bitOf-setHdp u q x h)
+      zero-goes w (setMarks m t) (tearingsOf-setMarks t m ∙ tearingsOf-setHdp u q x h) (resetOf-setMarks t m ∙ resetOf-setHdp u q x h)
+      (bitOf-setMarks t m ∙ bitOf-setHdp u q x h)
       (each (λ j. j < queues → bit j (marksOf (setMarks m t)) ≡ true → hdpOf (setMarks m t) j ≡ 0) q
       (λ k e. hdpOf-setMarks t m q k ∙ hdpOf-setHdp-same u q x size k ∙ z)
       (λ j n k e. hdpOf-setMarks t m j k ∙ hdpOf-setHdp-other u q x j n
-      ∙ marked-zero w j k (sym (ap (bit j) (marksOf-setMarks t m (length-setHdp u q x ∙ size)) ∙ bit-setBit-other j q (marksOf t) n ∙ ap (bit j) (marksOf-setHdp u q x h)) ∙ e)))
+      ∙ marked-zero w j k (sym
+      (ap (bit j) (marksOf-setMarks t m (length-setHdp u q x ∙ size)) ∙ bit-setBit-other j q (marksOf t) n
+      ∙ ap (bit j) (marksOf-setHdp u q x h)) ∙ e)))
 
   cp-goes : (q x : ℕ) → q < queues → awaiting u ≡ true → Goes s (setMark (queues + q) (setCp q x u))
   cp-goes q x h w =
       let t = setCp q x u in
       let m = setBit (queues + q) (marksOf t) in
-      zero-goes w (setMarks m t) (tearingsOf-setMarks t m ∙ tearingsOf-setCp u q x h) (resetOf-setMarks t m ∙ resetOf-setCp u q x h) (bitOf-setMarks t m ∙ bitOf-setCp u q x h)
+      zero-goes w (setMarks m t) (tearingsOf-setMarks t m ∙ tearingsOf-setCp u q x h) (resetOf-setMarks t m ∙ resetOf-setCp u q x h)
+      (bitOf-setMarks t m ∙ bitOf-setCp u q x h)
       (λ j k e. hdpOf-setMarks t m j k ∙ hdpOf-setCp u q x j k
-      ∙ marked-zero w j k (sym (ap (bit j) (marksOf-setMarks t m (length-setCp u q x ∙ size)) ∙ bit-setBit-other j (queues + q) (marksOf t) (λ n. omega arith) ∙ ap (bit j) (marksOf-setCp u q x h)) ∙ e))
+      ∙ marked-zero w j k (sym
+      (ap (bit j) (marksOf-setMarks t m (length-setCp u q x ∙ size)) ∙ bit-setBit-other j (queues + q) (marksOf t) (λ n. omega arith)
+      ∙ ap (bit j) (marksOf-setCp u q x h)) ∙ e))
 
   acked-goes : (q : ℕ) → q < queues → Goes s (setCp q 0 u)
   acked-goes q h = record {
@@ -190,7 +213,8 @@ module _ (s : Machine) (c : Calm s) where
   reset-goes w n =
       let t = setReset 1 u in
       let waits = awaiting-setResetBit t 1 ∙ awaiting-setReset u 1 in
-      let none : (q : ℕ) → tearingOf (resetWritten u) q ≡ false = λ q. tearingOf-setResetBit t 1 q ∙ tearingOf-setReset u 1 q ∙ anyTearing-none u q n in
+      let none : (q : ℕ) → tearingOf (resetWritten u) q ≡ false = λ q. tearingOf-setResetBit t 1 q ∙ tearingOf-setReset u 1 q
+      ∙ anyTearing-none u q n in
       let hdps : (q : ℕ) → q < queues → hdpOf (resetWritten u) q ≡ hdpOf u q = λ q h. hdpOf-setResetBit t 1 q h ∙ hdpOf-setReset u 1 q h in
       record {
         bits = bitOf-setResetBit t 1 (length-setReset u 1 ∙ size) ∙ sym (resetOf-setResetBit t 1 ∙ resetOf-setReset u 1 size);
@@ -211,7 +235,8 @@ module _ (s : Machine) (c : Calm s) where
   unfolding registerFault written
   register-goes n x o =
       byClass-both (λ (k : ℕ) (v : List ℕ). k ≡ 0 → Goes s v) n _ _ _ _ _ _ _ _ _ _ _ _ _ _ _ _ head (λ q h z. ack-goes q x h)
-      (λ side h z. let f = teardownFault-none (awaiting u) (resetOf u) (tearingOf u (tearQueue side x)) x (cpOf u (tearQueue side x)) z in tear-goes (tearQueue side x) (f .0) (f .1) (f .4))
+      (λ side h z. let f = teardownFault-none (awaiting u) (resetOf u) (tearingOf u (tearQueue side x)) x (cpOf u (tearQueue side x)) z in
+      tear-goes (tearQueue side x) (f .0) (f .1) (f .4))
       (λ z. let f = resetFault-none (awaiting u) (resetOf u) (anyTearing u) x z in reset-goes (f .0) (f .2))
       (λ z. still-goes) (λ z. still-goes) (λ z. still-goes) (λ z. still-goes)
     where
@@ -219,7 +244,8 @@ module _ (s : Machine) (c : Calm s) where
       head h z =
           let w : awaiting u ≡ true = not-false (awaiting u) (rw (lt-ltb n (hdpClass + queues) h) at o) in
           rw (headWritten-zero u (n - hdpClass) x w)
-          (head-goes (n - hdpClass) x (omega arith) w (headFault-zero (awaiting u) (resetOf u) (tearingOf u (n - hdpClass)) x (hdpOf u (n - hdpClass)) w z))
+          (head-goes (n - hdpClass) x (omega arith) w
+          (headFault-zero (awaiting u) (resetOf u) (tearingOf u (n - hdpClass)) x (hdpOf u (n - hdpClass)) w z))
 
 -- ---- a table after a write is a table, with the heads that it had
 
@@ -300,12 +326,14 @@ unfolding resetOf
 calm-alike s c l = record { same = λ k h g. at k h g (ltb k marksAt) refl }
   where
     register : (k : ℕ) → k ≤ bitAt → isDevice k ≡ true → getD (s .state) k 0 ≡ getD (s .ctl .state) k 0
-    register k g d = ap (λ (t : List ℕ). getD t k 0) (sym l) ∙ getD-loaded (s .ctl .state) (s .state) k (omega (arith, c .sized .book .size)) ∙ rw d refl
+    register k g d = ap (λ (t : List ℕ). getD t k 0) (sym l)
+        ∙ getD-loaded (s .ctl .state) (s .state) k (omega (arith, c .sized .book .size)) ∙ rw d refl
 
     past : (i : ℕ) → marksAt + i ≤ bitAt → getD (s .state) (marksAt + i) 0 ≡ getD (s .ctl .state) (marksAt + i) 0
     past zero g = c .marks
     past (suc zero) g = c .tearings
-    past (suc (suc zero)) g = flag-word (getD (s .state) resetAt 0) (getD (s .ctl .state) resetAt 0) (c .sized .book .reset) (c .sized .ctl .reset) (c .resets)
+    past (suc (suc zero)) g =
+        flag-word (getD (s .state) resetAt 0) (getD (s .ctl .state) resetAt 0) (c .sized .book .reset) (c .sized .ctl .reset) (c .resets)
     past (suc (suc (suc zero))) g = register bitAt g refl
     past (suc (suc (suc (suc i)))) g = absurd (omega arith)
 
@@ -326,7 +354,12 @@ register-calm s c l n x o z =
     let phases = phase-channels (s .ctl) (setState (written (s .ctl .state) n x) (s .ctl)) refl in
     record {
       qs = c .qs;
-      sized = record { book = fits-table (b .size) (b .flags); ctl = fits-table (k .size) (k .flags); stages = c .sized .stages; channels = c .sized .channels };
+      sized = record {
+        book = fits-table (b .size) (b .flags);
+        ctl = fits-table (k .size) (k .flags);
+        stages = c .sized .stages;
+        channels = c .sized .channels;
+      };
       defined = c .defined;
       held = record {
         fit = c .held .fit;
@@ -342,13 +375,18 @@ register-calm s c l n x o z =
       resets = reset-alike a;
       bits = g .bits;
       ready = g .ready;
-      duty = λ q h. let d = g .duty q h in rw (phases q) (record { young = d .young; stage = d .stage; alone = d .alone; ready = d .ready; asleep = d .asleep; zeroed = d .zeroed });
+      duty = λ q h. let d = g .duty q h in
+          rw (phases q) (record
+          { young = d .young; stage = d .stage; alone = d .alone; ready = d .ready; asleep = d .asleep; zeroed = d .zeroed });
       engine = λ q h. rw (phases q) (served q h (idle (phaseOf (s .ctl) q)) refl (g .hdp q h));
       room = c .room;
     }
   where
-    served : (q : ℕ) → q < queues → (b : Bool) → idle (phaseOf (s .ctl) q) ≡ b → (idle (phaseOf (s .ctl) q) ≡ false → hdpOf (written (s .ctl .state) n x) q ≡ hdpOf (s .ctl .state) q)
-        → Serves (s .kinds) (s .lens) (wordsOf s) (queueAt (c .qs) q) (hdpOf (written (s .ctl .state) n x) q) (stageOf (s .ctl) q) (phaseOf (s .ctl) q)
+    served : (q : ℕ) → q < queues → (b : Bool) → idle (phaseOf (s .ctl) q) ≡ b
+        → (idle (phaseOf (s .ctl) q) ≡ false → hdpOf (written (s .ctl .state) n x) q ≡ hdpOf (s .ctl .state) q)
+        → Serves (s .kinds) (s .lens) (wordsOf s) (queueAt (c .qs) q) (hdpOf (written (s .ctl .state) n x) q) (stageOf (s .ctl) q)
+        (phaseOf (s .ctl) q)
     served q h true e f =
-        serves-idle (s .kinds) (s .lens) (wordsOf s) (queueAt (c .qs) q) (postOf s q .hdp) (postOf s q .stage) (hdpOf (written (s .ctl .state) n x) q) (phaseOf (s .ctl) q) e (c .engine q h)
+        serves-idle (s .kinds) (s .lens) (wordsOf s) (queueAt (c .qs) q) (postOf s q .hdp) (postOf s q .stage)
+        (hdpOf (written (s .ctl .state) n x) q) (phaseOf (s .ctl) q) e (c .engine q h)
     served q h false e f = rw (f e) (c .engine q h)

@@ -76,7 +76,8 @@ module _ (K lens new : List ℕ) (w v : ℕ → ℕ) (L : List ℕ) (a : All (Sa
 
 -- ---- more behind it
 
-pub serves-more : (side : Side) (c : Controller) (ch : ℕ) (K lens : List ℕ) (w : ℕ → ℕ) (L es : List ℕ) (h n : ℕ) → L ≢ [] → Todo side K lens w es
+pub serves-more : (side : Side) (c : Controller) (ch : ℕ) (K lens : List ℕ) (w : ℕ → ℕ) (L es : List ℕ) (h n : ℕ) → L ≢ []
+    → Todo side K lens w es
     → Serves K lens w L h n (phaseBy side c ch) → Serves K lens w (L ++ es) h n (phaseBy side c ch)
 serves-more Transmit c ch K lens w L es h n some e t = tx-more K w L es some e h n (txOf c ch) t
 serves-more Receive c ch K lens w L es h n some e t = rx-more lens w L es some e h n (rxOf c ch) t

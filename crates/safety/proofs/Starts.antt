@@ -22,7 +22,9 @@ use Rattle.layout.specs.declared.Side.the-variants.{Transmit, Receive}
 use Rattle.layout.proofs.ChoiceLaws.{clash}
 use Rattle.registers.specs.Table.{headOf, hdpOf, tearingOf, awaiting, resetOf, setHead, setHdp}
 use Rattle.registers.specs.Rules.{headNumber, registerFault, written}
-use Rattle.registers.proofs.TableLaws.{length-setHead, headOf-setHead-same, headOf-setHead-other, marksOf-setHead, tearingsOf-setHead, resetOf-setHead, flagsFit-setHead, length-setHdp, headOf-setHdp, hdpOf-setHdp-same, marksOf-setHdp, awaiting-setHdp, tearingsOf-setHdp, tearingOf-setHdp, resetOf-setHdp, bitOf-setHdp, flagsFit-setHdp}
+use Rattle.registers.proofs.TableLaws.{length-setHead, headOf-setHead-same, headOf-setHead-other, marksOf-setHead, tearingsOf-setHead}
+use Rattle.registers.proofs.TableLaws.{resetOf-setHead, flagsFit-setHead, length-setHdp, headOf-setHdp, hdpOf-setHdp-same, marksOf-setHdp}
+use Rattle.registers.proofs.TableLaws.{awaiting-setHdp, tearingsOf-setHdp, tearingOf-setHdp, resetOf-setHdp, bitOf-setHdp, flagsFit-setHdp}
 use Rattle.registers.proofs.RegisterLaws.{byClass-head, headWritten-set, headFault-none}
 use Rattle.chain.specs.Chain.{placeOf}
 use Rattle.guard.specs.Judges.{judgeChain, started}
@@ -39,10 +41,12 @@ use Rattle.controller.specs.Controller.{stageOf, setState, answer, begunBy, set
 use Rattle.machine.specs.Machine.{Machine, withWorld, withCtl}
 use Rattle.safety.proofs.Inv.{Phase, sending, taking, phaseOf, idle, Serves, Todo, RoomIn, postOf, commonOf, wordsOf}
 use Rattle.safety.proofs.Ends.{good-start}
-use Rattle.safety.proofs.Touch.{Sided, setPhase, phase-channels, phase-here, table-fits, fits-table, Near, near-self, near-table, near-hdp, near-state, near-phase}
+use Rattle.safety.proofs.Touch.{Sided, setPhase, phase-channels, phase-here, table-fits, fits-table, Near, near-self, near-table}
+use Rattle.safety.proofs.Touch.{near-hdp, near-state, near-phase}
 use Rattle.safety.proofs.Serve.{serves-new, room-new}
 use Rattle.safety.proofs.Calm.{Duty, duty-same, Calm, bookOf}
-use Rattle.safety.proofs.Stores.{longer, handed, taken-sole, taken-recorded, taken-many, queue-here, taken-lengths, taken-todo, taken-room}
+use Rattle.safety.proofs.Stores.{longer, handed, taken-sole, taken-recorded, taken-many, queue-here, taken-lengths, taken-todo}
+use Rattle.safety.proofs.Stores.{taken-room}
 
 -- ---- an engine that begins
 
@@ -69,7 +73,8 @@ begins-awake : (side : Side) → idle (begins side) ≡ false
 begins-awake Transmit = refl
 begins-awake Receive = refl
 
-pub ready-begins : (side : Side) (K lens : List ℕ) (w : ℕ → ℕ) (L : List ℕ) (h n : ℕ) → goodPtr h ≡ true → n ≡ 1 → start L ≡ h → Todo side K lens w L
+pub ready-begins : (side : Side) (K lens : List ℕ) (w : ℕ → ℕ) (L : List ℕ) (h n : ℕ) → goodPtr h ≡ true → n ≡ 1 → start L ≡ h
+    → Todo side K lens w L
     → Serves K lens w L h n (begins side)
 ready-begins Transmit K lens w L h n g e f t = record { good = g; state = inl (e, f, t) }
 ready-begins Receive K lens w L h n g e f t = record { good = g; state = inl (e, f, t) }
@@ -97,7 +102,8 @@ module _ (s : Machine) (c : Calm s) (q : ℕ) (l : q < queues) (p : ℕ) (out : 
   near : Near (s .ctl) d q
   near =
       rw (begun-phase (sideOf q) q (s .ctl))
-      (near-state (near-phase (near-self q (c .sized)) l (begins (sideOf q)) (sided-begins (sideOf q) q refl)) (setHdp q p (s .ctl .state)) (near-hdp l (near-table (c .sized .ctl)) p))
+      (near-state (near-phase (near-self q (c .sized)) l (begins (sideOf q)) (sided-begins (sideOf q) q refl)) (setHdp q p (s .ctl .state))
+      (near-hdp l (near-table (c .sized .ctl)) p))
 
   phase-q : phaseOf d q ≡ begins (sideOf q)
   phase-q =
@@ -138,7 +144,8 @@ module _ (s : Machine) (c : Calm s) (q : ℕ) (l : q < queues) (p : ℕ) (out : 
       record {
         qs = new;
         sized = record {
-          book = fits-table (length-setHdp (setHead q p t) q p ∙ length-setHead t q p ∙ c .sized .book .size) (flagsFit-setHdp (setHead q p t) q p l ∙ flagsFit-setHead t q p l ∙ table-fits (c .sized .book));
+          book = fits-table (length-setHdp (setHead q p t) q p ∙ length-setHead t q p ∙ c .sized .book .size)
+              (flagsFit-setHdp (setHead q p t) q p l ∙ flagsFit-setHead t q p l ∙ table-fits (c .sized .book));
           ctl = near .state .table;
           stages = near .stages;
           channels = near .channels;
@@ -159,14 +166,19 @@ module _ (s : Machine) (c : Calm s) (q : ℕ) (l : q < queues) (p : ℕ) (out : 
         bits = bitOf-setHdp u q p l ∙ c .bits ∙ sym (resetOf-setHdp u q p l);
         ready = λ e. waits-d ∙ over;
         duty = each (λ i. i < queues → Duty (commonOf after) (postOf after i) (idle (phaseOf d i))) q (λ b. duty-q)
-            (λ i n b. duty-same (resetOf-setHdp u q p l) waits-d (near .state .tearing i b n) (near .state .cp i b n) (near .stage i b n) (ap (bit i) (near .state .marks)) (near .state .hdp i b n) (ap idle (near .phase i b n)) (c .duty i b));
-        engine = each (λ i. i < queues → Serves (s .kinds) lens w (queueAt new i) (postOf after i .hdp) (postOf after i .stage) (phaseOf d i)) q
+            (λ i n b. duty-same (resetOf-setHdp u q p l) waits-d (near .state .tearing i b n) (near .state .cp i b n) (near .stage i b n)
+            (ap (bit i) (near .state .marks)) (near .state .hdp i b n) (ap idle (near .phase i b n)) (c .duty i b));
+        engine = each (λ i. i < queues
+            → Serves (s .kinds) lens w (queueAt new i) (postOf after i .hdp) (postOf after i .stage) (phaseOf d i)) q
             (λ b. rw (queue-q, hdp-q, phase-q) served)
             (λ i n b. rw (queue-i i n, near .state .hdp i b n, near .stage i b n, near .phase i b n)
-            (serves-new (s .kinds) (s .lens) lens w w (queueAt qs i) (same-words (queueAt qs i)) (taken-lengths s c q l p out j i) (postOf s i .hdp) (postOf s i .stage) (phaseOf (s .ctl) i) (c .engine i b)));
+            (serves-new (s .kinds) (s .lens) lens w w (queueAt qs i) (same-words (queueAt qs i)) (taken-lengths s c q l p out j i)
+            (postOf s i .hdp) (postOf s i .stage) (phaseOf (s .ctl) i) (c .engine i b)));
         room = each (λ i. i < queues → RoomIn (sideOf i) (s .kinds) lens w (queueAt new i)) q
             (λ b. rw queue-q (taken-room s c q l p out j))
-            (λ i n b. rw (queue-i i n) (room-new (s .kinds) (s .lens) lens w w (queueAt qs i) (same-words (queueAt qs i)) (taken-lengths s c q l p out j i) (sideOf i) (c .room i b)));
+            (λ i n b. rw (queue-i i n)
+            (room-new (s .kinds) (s .lens) lens w w (queueAt qs i) (same-words (queueAt qs i)) (taken-lengths s c q l p out j i)
+            (sideOf i) (c .room i b)));
       }
     where
       heads : (i : ℕ) → i < queues → headOf (setHead q p (s .state)) i ≡ start (queueAt new i)
@@ -195,20 +207,25 @@ module _ (s : Machine) (c : Calm s) (q : ℕ) (l : q < queues) (p : ℕ) (out : 
 -- ---- what the controller makes of it
 
 -- n is the class of an HDP
-pub start-writes : (n v : ℕ) (c : Controller) (m : List ℕ) → n < hdpClass + queues → awaiting (c .state) ≡ false → headNumber (c .state) (n - hdpClass) v ≡ 0
+pub start-writes : (n v : ℕ) (c : Controller) (m : List ℕ) → n < hdpClass + queues → awaiting (c .state) ≡ false
+    → headNumber (c .state) (n - hdpClass) v ≡ 0
     → registerWrite n v c m ≡ answer 0 (begun (n - hdpClass) v c) m
 unfolding registerWrite registerFault written
 start-writes n v c m h over e =
     let fault : registerFault (c .state) n v ≡ 0 = byClass-head n _ _ _ _ _ _ _ _ h ∙ e in
-    let table : written (c .state) n v ≡ setHdp (n - hdpClass) v (c .state) = byClass-head n _ _ _ _ _ _ _ _ h ∙ headWritten-set (c .state) (n - hdpClass) v over in
+    let table : written (c .state) n v ≡ setHdp (n - hdpClass) v (c .state) = byClass-head n _ _ _ _ _ _ _ _ h
+    ∙ headWritten-set (c .state) (n - hdpClass) v over in
     rw (fault, lt-ltb n (hdpClass + queues) h, over, table) refl
 
 -- ---- both
 
-pub head-starts : (s : Machine) (c : Calm s) (q : ℕ) → q < queues → (v : ℕ) → awaiting (s .ctl .state) ≡ false → headNumber (s .ctl .state) q v ≡ 0
+pub head-starts : (s : Machine) (c : Calm s) (q : ℕ) → q < queues → (v : ℕ) → awaiting (s .ctl .state) ≡ false
+    → headNumber (s .ctl .state) q v ≡ 0
     → headOf (s .state) q ≡ 0 → judgeChain (sideOf q) v (bookOf s) .0 ≡ 0
     → Calm (withCtl (begun q v (s .ctl)) (s .mem) (withWorld (started q v (bookOf s)) s))
 head-starts s c q l v over e z k =
-    start-calm s c q l v _ over (headFault-none (awaiting (s .ctl .state)) (resetOf (s .ctl .state)) (tearingOf (s .ctl .state) q) v (hdpOf (s .ctl .state) q) over e .1)
+    start-calm s c q l v _ over
+    (headFault-none (awaiting (s .ctl .state)) (resetOf (s .ctl .state)) (tearingOf (s .ctl .state) q) v
+    (hdpOf (s .ctl .state) q) over e .1)
     (start-zero (queueAt (c .qs) q) (sym (c .held .heads q l) ∙ z))
     (judged-list (s .kinds) (wordsOf s) (placeOf (sideOf q)) (s .used) v k)

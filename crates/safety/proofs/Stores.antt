@@ -3,7 +3,8 @@
 --     restored m u s           the machine with other memory, words in use and lengths
 --     store-calm               a word that is not in use is stored
 --     judged-todo, judged-room a chain that was judged is still to be fetched, in blocks that permit it
---     longer, taken-sole, taken-recorded, taken-lengths   the queues with such a chain behind one of them, and what the hand-over makes of it
+--     longer, taken-sole, taken-recorded, taken-lengths   the queues with such a chain behind one of them, and what the hand-over makes of
+--                                                         it
 --     append-calm              it is appended to the last descriptor of a queue
 --     append-last              where the guard takes it for the last
 use Prim.Native.Nat.{ℕ, _+_, _<_, _^_}
@@ -47,7 +48,8 @@ restored m u s = record { ctl = s .ctl; mem = m; kinds = s .kinds; state = s .st
 
 -- ---- a word that is not in use
 
-pub store-calm : (s : Machine) → Calm s → (k x : ℕ) → x < 2 ^ 32 → has (s .used) k ≡ false → Calm (restored (put (s .mem) k x) (s .used, s .lens) s)
+pub store-calm : (s : Machine) → Calm s → (k x : ℕ) → x < 2 ^ 32 → has (s .used) k ≡ false
+    → Calm (restored (put (s .mem) k x) (s .used, s .lens) s)
 store-calm s c k x b f = record {
   qs = c .qs;
   sized = record { book = c .sized .book; ctl = c .sized .ctl; stages = c .sized .stages; channels = c .sized .channels };
@@ -67,8 +69,10 @@ store-calm s c k x b f = record {
   bits = c .bits;
   ready = c .ready;
   duty = c .duty;
-  engine = λ q l. serves-new (s .kinds) (s .lens) (s .lens) (wordsOf s) v (queueAt (c .qs) q) (three q) (lengths-same (s .lens) (queueAt (c .qs) q)) (postOf s q .hdp) (postOf s q .stage) (phaseOf (s .ctl) q) (c .engine q l);
-  room = λ q l. room-new (s .kinds) (s .lens) (s .lens) (wordsOf s) v (queueAt (c .qs) q) (three q) (lengths-same (s .lens) (queueAt (c .qs) q)) (sideOf q) (c .room q l);
+  engine = λ q l. serves-new (s .kinds) (s .lens) (s .lens) (wordsOf s) v (queueAt (c .qs) q) (three q)
+      (lengths-same (s .lens) (queueAt (c .qs) q)) (postOf s q .hdp) (postOf s q .stage) (phaseOf (s .ctl) q) (c .engine q l);
+  room = λ q l. room-new (s .kinds) (s .lens) (s .lens) (wordsOf s) v (queueAt (c .qs) q) (three q)
+      (lengths-same (s .lens) (queueAt (c .qs) q)) (sideOf q) (c .room q l);
 }
   where
     v : ℕ → ℕ
@@ -82,17 +86,20 @@ store-calm s c k x b f = record {
 
 -- ---- a chain that was judged
 
-pub judged-todo : (side : Side) (K : List ℕ) (w : ℕ → ℕ) (met : List ℕ) (p : ℕ) (out lens : List ℕ) (j : Judged K w (placeOf side) met p out)
+pub judged-todo : (side : Side) (K : List ℕ) (w : ℕ → ℕ) (met : List ℕ) (p : ℕ) (out lens : List ℕ)
+    (j : Judged K w (placeOf side) met p out)
     → All (λ d. getD lens d 0 ≡ recordedLength side (w (d + 2))) (j .ds) → Todo side K lens w (j .ds)
 judged-todo Transmit K w met p out lens j l = record { fresh = j .fresh; room = j .roomy }
 judged-todo Receive K w met p out lens j l = record { fresh = j .fresh; long = all-map _ _ (λ d e. sym e) (j .ds) l }
 
-pub judged-room : (side : Side) (K : List ℕ) (w : ℕ → ℕ) (met : List ℕ) (p : ℕ) (out lens : List ℕ) (j : Judged K w (placeOf side) met p out)
+pub judged-room : (side : Side) (K : List ℕ) (w : ℕ → ℕ) (met : List ℕ) (p : ℕ) (out lens : List ℕ)
+    (j : Judged K w (placeOf side) met p out)
     → All (λ d. getD lens d 0 ≡ recordedLength side (w (d + 2))) (j .ds) → RoomIn side K lens w (j .ds)
 judged-room Transmit K w met p out lens j l = tt
 judged-room Receive K w met p out lens j l = room-recorded K lens w (j .ds) (j .roomy) l
 
-room-join : (side : Side) (K lens : List ℕ) (w : ℕ → ℕ) (L es : List ℕ) → RoomIn side K lens w L → RoomIn side K lens w es → RoomIn side K lens w (L ++ es)
+room-join : (side : Side) (K lens : List ℕ) (w : ℕ → ℕ) (L es : List ℕ) → RoomIn side K lens w L → RoomIn side K lens w es
+    → RoomIn side K lens w (L ++ es)
 room-join Transmit K lens w L es a b = tt
 room-join Receive K lens w L es a b = all-join _ L es a b
 
@@ -113,7 +120,8 @@ module _ (s : Machine) (c : Calm s) (q : ℕ) (l : q < queues) (p : ℕ) (out : 
   handed = takenFrom (wordsOf s) (sideOf q) (s .used, s .lens) p
 
   taken : Taken w (sideOf q) (s .used, s .lens) handed qs (j .ds)
-  taken = rw (side-place (sideOf q)) at (judged-taken (s .kinds) w (placeOf (sideOf q)) (s .used, s .lens) p out qs j (c .held .sole) (c .held .recorded))
+  taken = rw (side-place (sideOf q)) at
+      (judged-taken (s .kinds) w (placeOf (sideOf q)) (s .used, s .lens) p out qs j (c .held .sole) (c .held .recorded))
 
   there : q < length qs
   there = omega (arith, c .held .many)
@@ -152,10 +160,13 @@ module _ (s : Machine) (c : Calm s) (q : ℕ) (l : q < queues) (p : ℕ) (out : 
 
     -- the words of the chain, of the queue and of all others
     apart : Sole (handed .0) (j .ds ++ ((cs ++ k ∷ []) ++ flat (without q qs)))
-    apart = rw (← last) (sole-perm (λ i. let a = count-at q qs i in let b = count-append (queueAt qs q) (flat (without q qs)) i in simp count-append (omega arith)) (taken .sole))
+    apart = rw (← last) (sole-perm (λ i. let a = count-at q qs i in let b = count-append (queueAt qs q) (flat (without q qs)) i in
+        simp count-append (omega arith)) (taken .sole))
 
     grows : Appended w v cs k (j .ds) (flat (without q qs))
-    grows = rw (j .begins) (appended (s .mem) cs k (j .ds) (flat (without q qs)) (c .held .fit .size) (rw last at (c .held .linked q)) (j .linked) (sole-apart apart))
+    grows = rw (j .begins)
+        (appended (s .mem) cs k (j .ds) (flat (without q qs)) (c .held .fit .size) (rw last at (c .held .linked q)) (j .linked)
+        (sole-apart apart))
 
     -- the other queues, and this one
     others : (i : ℕ) → i ≢ q → All (Same w v) (queueAt qs i)
@@ -177,8 +188,10 @@ module _ (s : Machine) (c : Calm s) (q : ℕ) (l : q < queues) (p : ℕ) (out : 
     all-lengths : All (SameLength (handed .1) (handed .1)) (j .ds)
     all-lengths = lengths-same (handed .1) (j .ds)
 
-    served : (i : ℕ) → i < queues → Serves (s .kinds) (handed .1) v (queueAt qs i) (postOf s i .hdp) (postOf s i .stage) (phaseOf (s .ctl) i)
-    served i h = serves-new (s .kinds) (s .lens) (handed .1) w v (queueAt qs i) (old i) (taken-lengths i) (postOf s i .hdp) (postOf s i .stage) (phaseOf (s .ctl) i) (c .engine i h)
+    served : (i : ℕ) → i < queues
+        → Serves (s .kinds) (handed .1) v (queueAt qs i) (postOf s i .hdp) (postOf s i .stage) (phaseOf (s .ctl) i)
+    served i h = serves-new (s .kinds) (s .lens) (handed .1) w v (queueAt qs i) (old i) (taken-lengths i) (postOf s i .hdp)
+        (postOf s i .stage) (phaseOf (s .ctl) i) (c .engine i h)
 
     roomy : (i : ℕ) → i < queues → RoomIn (sideOf i) (s .kinds) (handed .1) v (queueAt qs i)
     roomy i h = room-new (s .kinds) (s .lens) (handed .1) w v (queueAt qs i) (old i) (taken-lengths i) (sideOf i) (c .room i h)
@@ -197,7 +210,8 @@ module _ (s : Machine) (c : Calm s) (q : ℕ) (l : q < queues) (p : ℕ) (out : 
             (λ i n h. c .held .heads i h ∙ sym (ap start (queue-set-other qs q _ i n)));
         linked = each (λ i. Linked v (queueAt new i)) q
             (rw (queue-here, last, append-assoc cs (k ∷ []) (j .ds)) (grows .linked))
-            (λ i n. rw (queue-set-other qs q (queueAt qs q ++ j .ds) i n) (linked-same w v (queueAt qs i) (same-nexts w v (queueAt qs i) (others i n)) (c .held .linked i)));
+            (λ i n. rw (queue-set-other qs q (queueAt qs q ++ j .ds) i n)
+            (linked-same w v (queueAt qs i) (same-nexts w v (queueAt qs i) (others i n)) (c .held .linked i)));
         sole = taken-sole;
         recorded = taken-recorded;
       };
@@ -207,9 +221,11 @@ module _ (s : Machine) (c : Calm s) (q : ℕ) (l : q < queues) (p : ℕ) (out : 
       bits = c .bits;
       ready = c .ready;
       duty = c .duty;
-      engine = each (λ i. i < queues → Serves (s .kinds) (handed .1) v (queueAt new i) (postOf s i .hdp) (postOf s i .stage) (phaseOf (s .ctl) i)) q
+      engine = each (λ i. i < queues
+          → Serves (s .kinds) (handed .1) v (queueAt new i) (postOf s i .hdp) (postOf s i .stage) (phaseOf (s .ctl) i)) q
           (λ h. rw queue-here
-          (serves-more (sideOf q) (s .ctl) (channelOf q) (s .kinds) (handed .1) v (queueAt qs q) (j .ds) (postOf s q .hdp) (postOf s q .stage) not-nil
+          (serves-more (sideOf q) (s .ctl) (channelOf q) (s .kinds) (handed .1) v (queueAt qs q) (j .ds) (postOf s q .hdp)
+          (postOf s q .stage) not-nil
           (todo-new (s .kinds) (handed .1) (handed .1) w v (j .ds) three all-lengths (sideOf q) taken-todo) (served q h)))
           (λ i n h. rw (queue-set-other qs q (queueAt qs q ++ j .ds) i n) (served i h));
       room = each (λ i. i < queues → RoomIn (sideOf i) (s .kinds) (handed .1) v (queueAt new i)) q
@@ -220,10 +236,14 @@ module _ (s : Machine) (c : Calm s) (q : ℕ) (l : q < queues) (p : ℕ) (out : 
     }
 
 -- the guard found word k to be word 0 of the queue's last descriptor, and no fault in the chain
-pub append-last : (s : Machine) (c : Calm s) (q : ℕ) → q < queues → (k p : ℕ) → p < 2 ^ 32 → isLast (wordsOf s) (headOf (s .state) q) k ≡ true
-    → judgeChain (sideOf q) p (bookOf s) .0 ≡ 0 → Calm (restored (put (s .mem) k p) (takenFrom (wordsOf s) (sideOf q) (s .used, s .lens) p) s)
+pub append-last : (s : Machine) (c : Calm s) (q : ℕ) → q < queues → (k p : ℕ) → p < 2 ^ 32
+    → isLast (wordsOf s) (headOf (s .state) q) k ≡ true
+    → judgeChain (sideOf q) p (bookOf s) .0 ≡ 0
+    → Calm (restored (put (s .mem) k p) (takenFrom (wordsOf s) (sideOf q) (s .used, s .lens) p) s)
 append-last s c q l k p small e z =
-    at (last-yes (wordsOf s) (queueAt (c .qs) q) (flat (without q (c .qs))) k (c .held .linked q) (sole-at q (c .qs) (c .held .sole)) (rw (c .held .heads q l) at e))
+    at (last-yes (wordsOf s) (queueAt (c .qs) q) (flat (without q (c .qs))) k (c .held .linked q) (sole-at q (c .qs) (c .held .sole))
+    (rw (c .held .heads q l) at e))
   where
-    at : (cs : List ℕ) × (queueAt (c .qs) q ≡ cs ++ k ∷ []) → Calm (restored (put (s .mem) k p) (takenFrom (wordsOf s) (sideOf q) (s .used, s .lens) p) s)
+    at : (cs : List ℕ) × (queueAt (c .qs) q ≡ cs ++ k ∷ [])
+        → Calm (restored (put (s .mem) k p) (takenFrom (wordsOf s) (sideOf q) (s .used, s .lens) p) s)
     at x = append-calm s c q l p _ (judged-list (s .kinds) (wordsOf s) (placeOf (sideOf q)) (s .used) p z) (x .0) k (x .1) small

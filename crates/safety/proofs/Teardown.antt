@@ -34,7 +34,13 @@ use Rattle.marks.specs.Marks.{tdMark, marked}
 use Rattle.marks.proofs.FlagLaws.{td-tdMark, tdMark-lt}
 use Rattle.registers.specs.Table.{marksOf, tearingsOf, tearingOf, resetOf, bitOf, setHdp, setCp, clearTearing, setResetBit, unmarked}
 use Rattle.registers.specs.Rules.{teardownDone}
-use Rattle.registers.proofs.TableLaws.{bit-none, awaiting-bit, hdpOf-setHdp-same, cpOf-setHdp, marksOf-setHdp, tearingOf-setHdp, length-setCp, cpOf-setCp-same, hdpOf-setCp, marksOf-setCp, hdpOf-setTearings, cpOf-setTearings, marksOf-setTearings, tearingOf-clearTearing-same, length-setResetBit, bitOf-setResetBit, hdpOf-setResetBit, cpOf-setResetBit, marksOf-setResetBit, awaiting-setResetBit, tearingOf-setResetBit, resetOf-setResetBit, length-unmarked, hdpOf-unmarked, cpOf-unmarked, marksOf-unmarked, awaiting-unmarked, tearingOf-unmarked, resetOf-unmarked, flagsFit-setResetBit, flagsFit-unmarked}
+use Rattle.registers.proofs.TableLaws.{bit-none, awaiting-bit, hdpOf-setHdp-same, cpOf-setHdp, marksOf-setHdp, tearingOf-setHdp}
+use Rattle.registers.proofs.TableLaws.{length-setCp, cpOf-setCp-same, hdpOf-setCp, marksOf-setCp, hdpOf-setTearings, cpOf-setTearings}
+use Rattle.registers.proofs.TableLaws.{marksOf-setTearings, tearingOf-clearTearing-same, length-setResetBit, bitOf-setResetBit}
+use Rattle.registers.proofs.TableLaws.{hdpOf-setResetBit, cpOf-setResetBit, marksOf-setResetBit, awaiting-setResetBit}
+use Rattle.registers.proofs.TableLaws.{tearingOf-setResetBit, resetOf-setResetBit, length-unmarked, hdpOf-unmarked, cpOf-unmarked}
+use Rattle.registers.proofs.TableLaws.{marksOf-unmarked, awaiting-unmarked, tearingOf-unmarked, resetOf-unmarked, flagsFit-setResetBit}
+use Rattle.registers.proofs.TableLaws.{flagsFit-unmarked}
 use Rattle.book.specs.declared.Mode.the-variants.{Head, All as Whole}
 use Rattle.queue.proofs.Queue.{start, Linked, kept}
 use Rattle.queue.proofs.KeptLaws.{kept-torn, kept-whole}
@@ -45,12 +51,16 @@ use Rattle.phases.specs.declared.Receiving.the-variants as R
 use Rattle.phases.specs.Quiet.{quietTx, quietRx}
 use Rattle.controller.specs.declared.Channel.{Channel}
 use Rattle.controller.specs.declared.Controller.{Controller}
-use Rattle.controller.specs.Controller.{StepDone, answer, idleChannel, stageOf, setStage, setState, setChannels, allQuiet, quietBy, quietEngine, idleBy, tearMark, tearClear, tearReport, tearStep, resetStep}
+use Rattle.controller.specs.Controller.{StepDone, answer, idleChannel, stageOf, setStage, setState, setChannels, allQuiet, quietBy}
+use Rattle.controller.specs.Controller.{quietEngine, idleBy, tearMark, tearClear, tearReport, tearStep, resetStep}
 use Rattle.machine.specs.Machine.{Machine, withCtl}
-use Rattle.safety.proofs.Inv.{Ready, Phase, sending, taking, phaseBy, phaseOf, idle, Serves, RoomIn, Post, postOf, Common, commonOf, over, wordsOf, leftOf, Sized, Shared, TearingFits, Inv}
+use Rattle.safety.proofs.Inv.{Ready, Phase, sending, taking, phaseBy, phaseOf, idle, Serves, RoomIn, Post, postOf, Common, commonOf}
+use Rattle.safety.proofs.Inv.{over, wordsOf, leftOf, Sized, Shared, TearingFits, Inv}
 use Rattle.safety.proofs.Ends.{top-start}
 use Rattle.safety.proofs.Marks.{word-fits, marked-fits, marked-reads}
-use Rattle.safety.proofs.Touch.{Sided, setPhase, phase-channels, phase-here, table-fits, fits-table, near-table, near-hdp, near-cp, near-finished, near-self, near-state, near-stage, near-phase, Stands, shared-of, turn-of, move-near, touch-near, touch-spares, Fine, fine-quiet}
+use Rattle.safety.proofs.Touch.{Sided, setPhase, phase-channels, phase-here, table-fits, fits-table, near-table, near-hdp, near-cp}
+use Rattle.safety.proofs.Touch.{near-finished, near-self, near-state, near-stage, near-phase, Stands, shared-of, turn-of, move-near}
+use Rattle.safety.proofs.Touch.{touch-near, touch-spares, Fine, fine-quiet}
 use Rattle.safety.proofs.LastSteps.{pointer-word, left-linked}
 
 pub stays-fine : (s : Machine) → Inv s → Fine s (answer 0 (s .ctl) (s .mem))
@@ -171,7 +181,8 @@ module _ (s : Machine) (z : Sized s) (q : ℕ) (l : q < queues) where
   }
 
   -- HDP 0, and the engine in another phase
-  cleared-stands : (ph : Phase) → Sided q ph → Stands s (setStage q 3 (setState (setHdp q 0 (s .ctl .state)) (setPhase q ph (s .ctl)))) q (cleared (postOf s q)) ph
+  cleared-stands : (ph : Phase) → Sided q ph
+      → Stands s (setStage q 3 (setState (setHdp q 0 (s .ctl .state)) (setPhase q ph (s .ctl)))) q (cleared (postOf s q)) ph
   cleared-stands ph o =
       let t = s .ctl .state in
       let n = near-phase (near-self q z) l ph o in
@@ -193,7 +204,8 @@ module _ (s : Machine) (z : Sized s) (q : ℕ) (l : q < queues) where
       let u = setCp q teardownDone t in
       let lu = length-setCp t q teardownDone ∙ z .ctl .size in
       record {
-        near = near-stage (near-state (near-self q z) (clearTearing q u) (near-finished l (near-cp l (near-table (z .ctl)) teardownDone))) 1;
+        near = near-stage (near-state (near-self q z) (clearTearing q u) (near-finished l (near-cp l (near-table (z .ctl)) teardownDone)))
+            1;
         post =
             let a = hdpOf-setTearings u (clearBit q (tearingsOf u)) q l ∙ hdpOf-setCp t q teardownDone q l in
             let b = cpOf-setTearings u (clearBit q (tearingsOf u)) q l ∙ cpOf-setCp-same t q teardownDone (z .ctl .size) l in
@@ -232,7 +244,8 @@ module _ (s : Machine) (i : Inv s) (q : ℕ) (l : q < queues) (pending : postOf 
   unfolding tearMark
   idle-marks r =
       rw (eq-eqb (here .hdp) 0 (idle-zero (r .rests)))
-      (fine-quiet (move-near s i q l (staged-stands s (i .sized) q l 2) (turn-stage (i .turn q l) pending 2) (rw (r .none) (r .serves (wordsOf s) (here .hdp) 2)))
+      (fine-quiet (move-near s i q l (staged-stands s (i .sized) q l 2) (turn-stage (i .turn q l) pending 2)
+      (rw (r .none) (r .serves (wordsOf s) (here .hdp) 2)))
       (λ k f. refl))
 
   before-marks : Before (s .kinds) (s .lens) L (here .hdp) (here .stage) phase → start L ≡ here .hdp → Fine s (tearMark q (s .ctl) (s .mem))
@@ -252,7 +265,8 @@ module _ (s : Machine) (i : Inv s) (q : ℕ) (l : q < queues) (pending : postOf 
       let there : v (f + 3) ≡ tdMark (w (f + 3)) = marked-reads tdMark f m small fit (lk .0) in
       rw (ne-eqb h 0 (λ z. omega (arith, z, at)), r .good, pointer-word at)
       (fine-quiet
-      (touch-near s i q (marked tdMark f m) [] f (top .fs) only (top .is) l (staged-stands s (i .sized) q l 2) (marked-fits tdMark f m small fit) (turn-stage (i .turn q l) pending 2)
+      (touch-near s i q (marked tdMark f m) [] f (top .fs) only (top .is) l (staged-stands s (i .sized) q l 2)
+      (marked-fits tdMark f m small fit) (turn-stage (i .turn q l) pending 2)
       (λ k. rw (kept-torn v f (top .fs) (ap td there ∙ td-tdMark (w (f + 3)))) (r .serves v)))
       (touch-spares s i q (marked tdMark f m) [] f (top .fs) only (top .is)))
 
@@ -262,7 +276,8 @@ module _ (s : Machine) (i : Inv s) (q : ℕ) (l : q < queues) (pending : postOf 
     where
       by : (ph : Phase) (o : Sided q ph) → idle ph ≡ true → Serves (s .kinds) (s .lens) (wordsOf s) L 0 3 ph
           → Fine s (answer 0 (setStage q 3 (setState (setHdp q 0 (s .ctl .state)) (setPhase q ph (s .ctl)))) (s .mem))
-      by ph o d t = fine-quiet (move-near s i q l (cleared-stands s (i .sized) q l ph o) (rw d (turn-clear (i .turn q l) pending)) t) (λ k f. refl)
+      by ph o d t = fine-quiet (move-near s i q l (cleared-stands s (i .sized) q l ph o) (rw d (turn-clear (i .turn q l) pending)) t)
+          (λ k f. refl)
 
       at : (side : Side) → sideOf q ≡ side
           → Fine s (answer 0 (setStage q 3 (setState (setHdp q 0 (s .ctl .state)) (idleBy side (channelOf q) (s .ctl)))) (s .mem))
@@ -271,7 +286,8 @@ module _ (s : Machine) (i : Inv s) (q : ℕ) (l : q < queues) (pending : postOf 
 
   reports : AtRest (s .kinds) (s .lens) L phase → Fine s (answer 0 (tearReport q (s .ctl)) (s .mem))
   reports r =
-      fine-quiet (move-near s i q l (reported-stands s (i .sized) q l) (turn-report (i .turn q l) pending (r .rests)) (rw (r .none) (r .serves (wordsOf s) (here .hdp) 1)))
+      fine-quiet (move-near s i q l (reported-stands s (i .sized) q l) (turn-report (i .turn q l) pending (r .rests))
+      (rw (r .none) (r .serves (wordsOf s) (here .hdp) 1)))
       (λ k f. refl)
 
   abbrev pub next : StepDone
@@ -284,7 +300,8 @@ module _ (s : Machine) (i : Inv s) (q : ℕ) (l : q < queues) (pending : postOf 
   next-fine (inr r) = at (r .state)
     where
       at : ((here .stage ≡ 1) × (start L ≡ here .hdp)) ⊎ ((here .stage ≡ 2) × (L ≡ [])) → Fine s next
-      at (inl x) = three (Fine s) (here .stage) _ _ _ (λ e. before-marks r (x .1)) (λ e. absurd (omega (arith, e, x .0))) (λ a b. absurd (a (x .0)))
+      at (inl x) = three (Fine s) (here .stage) _ _ _ (λ e. before-marks r (x .1)) (λ e. absurd (omega (arith, e, x .0)))
+          (λ a b. absurd (a (x .0)))
       at (inr x) = three (Fine s) (here .stage) _ _ _ (λ e. absurd (omega (arith, e, x .0))) (λ e. clears (x .1)) (λ a b. absurd (b (x .0)))
 
 pub tear-fine : (s : Machine) → Inv s → (q : ℕ) → q < queues → Fine s (tearStep q (s .ctl) (s .mem))
@@ -305,8 +322,10 @@ all-rest K lens c e q = at (sideOf q)
     channel = ap (λ (x : List Channel). getD x (channelOf q) idleChannel) e ∙ getD-same channels (channelOf q) idleChannel
 
     at : (side : Side) → AtRest K lens [] (phaseBy side c (channelOf q))
-    at Transmit = subst (λ (x : Channel). AtRest K lens [] (sending (x .tx))) (sym channel) (record { rests = refl; none = refl; serves = λ w h n. refl })
-    at Receive = subst (λ (x : Channel). AtRest K lens [] (taking (x .rx))) (sym channel) (record { rests = refl; none = refl; serves = λ w h n. refl })
+    at Transmit = subst (λ (x : Channel). AtRest K lens [] (sending (x .tx))) (sym channel)
+        (record { rests = refl; none = refl; serves = λ w h n. refl })
+    at Receive = subst (λ (x : Channel). AtRest K lens [] (taking (x .rx))) (sym channel)
+        (record { rests = refl; none = refl; serves = λ w h n. refl })
 
 -- nothing is left, so there is nothing in a block
 pub no-room : (side : Side) (K lens : List ℕ) (w : ℕ → ℕ) → RoomIn side K lens w []
@@ -328,7 +347,8 @@ reset-booked c s r = at (over c) (s .resets ∙ r)
 abbrev unmarked-post : Post → Post
 unmarked-post p = record { hdp = p .hdp; cp = p .cp; stage = p .stage; mark = false; booked = p .booked; tearing = p .tearing }
 
-turn-reset : {c : Common} {p : Post} {rests : Bool} → TearingFits c p rests → c .reset ≡ true → TearingFits (unmarking c) (unmarked-post p) true
+turn-reset : {c : Common} {p : Post} {rests : Bool} → TearingFits c p rests → c .reset ≡ true
+    → TearingFits (unmarking c) (unmarked-post p) true
 turn-reset t r = record {
   settles = t .settles;
   young = t .young;
@@ -363,7 +383,8 @@ module _ (s : Machine) (i : Inv s) (r : commonOf s .reset ≡ true) where
       let u = unmarked t in
       let a = hdpOf-setResetBit u 0 q l ∙ hdpOf-unmarked t q l in
       let b = cpOf-setResetBit u 0 q l ∙ cpOf-unmarked t q l in
-      let c : bit q (marksOf (setResetBit 0 u)) ≡ false = ap (bit q) (marksOf-setResetBit u 0 ∙ marksOf-unmarked t (i .sized .ctl .size)) ∙ bit-none q in
+      let c : bit q (marksOf (setResetBit 0 u)) ≡ false = ap (bit q) (marksOf-setResetBit u 0 ∙ marksOf-unmarked t (i .sized .ctl .size))
+      ∙ bit-none q in
       let d = tearingOf-setResetBit u 0 q ∙ tearingOf-unmarked t q in
       cc
 
@@ -372,7 +393,8 @@ module _ (s : Machine) (i : Inv s) (r : commonOf s .reset ≡ true) where
 
   left-reset : (q : ℕ) → leftOf after (i .qs) q ≡ []
   left-reset q =
-      ap (λ (c : Common). kept (wordsOf s) (pick (over c) Whole Head) (queueAt (i .qs) q)) common-reset ∙ rw booked (kept-whole (wordsOf s) (queueAt (i .qs) q))
+      ap (λ (c : Common). kept (wordsOf s) (pick (over c) Whole Head) (queueAt (i .qs) q)) common-reset
+      ∙ rw booked (kept-whole (wordsOf s) (queueAt (i .qs) q))
 
   rest : (q : ℕ) → AtRest (s .kinds) (s .lens) [] (phaseOf (after .ctl) q)
   rest = all-rest (s .kinds) (s .lens) (after .ctl) refl
@@ -390,8 +412,17 @@ module _ (s : Machine) (i : Inv s) (r : commonOf s .reset ≡ true) where
           channels = length-replicate channels idleChannel;
         };
         defined = i .defined;
-        held = record { fit = h .fit; kinds = h .kinds; many = h .many; heads = h .heads; linked = h .linked; sole = h .sole; recorded = h .recorded };
-        shared = shared-of common-reset (record { resets = rw booked refl; marks = rw booked refl; bits = refl; ready = λ e. clash e refl });
+        held = record {
+          fit = h .fit;
+          kinds = h .kinds;
+          many = h .many;
+          heads = h .heads;
+          linked = h .linked;
+          sole = h .sole;
+          recorded = h .recorded;
+        };
+        shared = shared-of common-reset
+            (record { resets = rw booked refl; marks = rw booked refl; bits = refl; ready = λ e. clash e refl });
         turn = λ q l. turn-of common-reset (post-reset q l) (rest q .rests) (turn-reset (i .turn q l) r);
         engine = λ q l. rw (left-reset q) (rest q .serves (wordsOf s) _ _);
         room = λ q l. rw (left-reset q) (no-room (sideOf q) (s .kinds) (s .lens) (wordsOf s));

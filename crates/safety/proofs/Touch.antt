@@ -33,8 +33,14 @@ use Rattle.layout.specs.declared.Side.{Side}
 use Rattle.layout.specs.declared.Side.the-variants.{Transmit, Receive}
 use Rattle.words.specs.Word.{word}
 use Rattle.words.specs.WordSet.{has}
-use Rattle.registers.specs.Table.{stateWords, hdpOf, cpOf, marksOf, tearingOf, awaiting, resetOf, bitOf, setHdp, setCp, clearTearing, flagsFit}
-use Rattle.registers.proofs.TableLaws.{length-setHdp, hdpOf-setHdp-same, hdpOf-setHdp-other, cpOf-setHdp, marksOf-setHdp, tearingOf-setHdp, resetOf-setHdp, bitOf-setHdp, length-setCp, cpOf-setCp-same, cpOf-setCp-other, hdpOf-setCp, marksOf-setCp, tearingOf-setCp, resetOf-setCp, bitOf-setCp, length-setTearings, hdpOf-setTearings, cpOf-setTearings, marksOf-setTearings, resetOf-setTearings, bitOf-setTearings, tearingOf-clearTearing-other, flagsFit-bounds, bounds-flagsFit, flagsFit-setHdp, flagsFit-setCp, flagsFit-clearTearing}
+use Rattle.registers.specs.Table.{stateWords, hdpOf, cpOf, marksOf, tearingOf, awaiting, resetOf, bitOf, setHdp, setCp, clearTearing}
+use Rattle.registers.specs.Table.{flagsFit}
+use Rattle.registers.proofs.TableLaws.{length-setHdp, hdpOf-setHdp-same, hdpOf-setHdp-other, cpOf-setHdp, marksOf-setHdp, tearingOf-setHdp}
+use Rattle.registers.proofs.TableLaws.{resetOf-setHdp, bitOf-setHdp, length-setCp, cpOf-setCp-same, cpOf-setCp-other, hdpOf-setCp}
+use Rattle.registers.proofs.TableLaws.{marksOf-setCp, tearingOf-setCp, resetOf-setCp, bitOf-setCp, length-setTearings, hdpOf-setTearings}
+use Rattle.registers.proofs.TableLaws.{cpOf-setTearings, marksOf-setTearings, resetOf-setTearings, bitOf-setTearings}
+use Rattle.registers.proofs.TableLaws.{tearingOf-clearTearing-other, flagsFit-bounds, bounds-flagsFit, flagsFit-setHdp, flagsFit-setCp}
+use Rattle.registers.proofs.TableLaws.{flagsFit-clearTearing}
 use Rattle.book.specs.declared.Mode.{Mode}
 use Rattle.book.specs.declared.Mode.the-variants.{Head, All as Whole}
 use Rattle.queue.proofs.Queue.{All, Linked, flat, kept}
@@ -48,10 +54,12 @@ use Rattle.phases.specs.declared.Burst.{Burst}
 use Rattle.phases.specs.declared.Burst.the-variants.{Quiet}
 use Rattle.controller.specs.declared.Channel.{Channel}
 use Rattle.controller.specs.declared.Controller.{Controller}
-use Rattle.controller.specs.Controller.{StepDone, answer, idleChannel, txOf, rxOf, stageOf, setTx, setRx, setStage, setState, setTotals, setRegs}
+use Rattle.controller.specs.Controller.{StepDone, answer, idleChannel, txOf, rxOf, stageOf, setTx, setRx, setStage, setState, setTotals}
+use Rattle.controller.specs.Controller.{setRegs}
 use Rattle.machine.specs.Machine.{Machine, withCtl}
 use Rattle.safety.specs.Statement.{InPlace}
-use Rattle.safety.proofs.Inv.{Fit, Phase, sending, taking, phaseBy, phaseOf, idle, Serves, RoomIn, Post, postOf, Common, commonOf, over, wordsOf, modeOf, leftOf, Table, Sized, Shared, TearingFits, Inv}
+use Rattle.safety.proofs.Inv.{Fit, Phase, sending, taking, phaseBy, phaseOf, idle, Serves, RoomIn, Post, postOf, Common, commonOf}
+use Rattle.safety.proofs.Inv.{over, wordsOf, modeOf, leftOf, Table, Sized, Shared, TearingFits, Inv}
 use Rattle.safety.proofs.Frame.{kept-part, lengths-same}
 use Rattle.safety.proofs.Serve.{serves-new}
 use Rattle.safety.proofs.Marks.{spared, withRegs}
@@ -82,11 +90,13 @@ module _ (c : Controller) (ch : ℕ) where
   at-there : (x : Channel) (j : ℕ) → j ≢ ch → getD (set (c .channels) ch x) j idleChannel ≡ getD (c .channels) j idleChannel
   at-there x j n = getD-set-other (c .channels) ch j x idleChannel n
 
-  tx-there : (x : Channel) → ch < length (c .channels) → x .tx ≡ txOf c ch → (j : ℕ) → getD (set (c .channels) ch x) j idleChannel .tx ≡ txOf c j
+  tx-there : (x : Channel) → ch < length (c .channels) → x .tx ≡ txOf c ch → (j : ℕ)
+      → getD (set (c .channels) ch x) j idleChannel .tx ≡ txOf c j
   tx-there x l e = each (λ j. getD (set (c .channels) ch x) j idleChannel .tx ≡ txOf c j) ch
       (ap (λ (y : Channel). y .tx) (at-here x l) ∙ e) (λ j n. ap (λ (y : Channel). y .tx) (at-there x j n))
 
-  rx-there : (x : Channel) → ch < length (c .channels) → x .rx ≡ rxOf c ch → (j : ℕ) → getD (set (c .channels) ch x) j idleChannel .rx ≡ rxOf c j
+  rx-there : (x : Channel) → ch < length (c .channels) → x .rx ≡ rxOf c ch → (j : ℕ)
+      → getD (set (c .channels) ch x) j idleChannel .rx ≡ rxOf c j
   rx-there x l e = each (λ j. getD (set (c .channels) ch x) j idleChannel .rx ≡ rxOf c j) ch
       (ap (λ (y : Channel). y .rx) (at-here x l) ∙ e) (λ j n. ap (λ (y : Channel). y .rx) (at-there x j n))
 
@@ -102,11 +112,14 @@ module _ (c : Controller) (q : ℕ) (l : channelOf q < length (c .channels)) whe
   pub phase-there : (ph : Phase) → Sided q ph → (j : ℕ) → j ≢ q → phaseOf (setPhase q ph c) j ≡ phaseOf c j
   phase-there ph e j n = at (sideOf j) refl ph e
     where
-      at : (side : Side) → sideOf j ≡ side → (ph : Phase) → Sided q ph → phaseBy side (setPhase q ph c) (channelOf j) ≡ phaseBy side c (channelOf j)
-      at Transmit f (sending ph) e = ap (λ (y : Channel). sending (y .tx)) (at-there c (channelOf q) _ (channelOf j) (channels-differ q j (f ∙ sym e) n))
+      at : (side : Side) → sideOf j ≡ side → (ph : Phase) → Sided q ph
+          → phaseBy side (setPhase q ph c) (channelOf j) ≡ phaseBy side c (channelOf j)
+      at Transmit f (sending ph) e =
+          ap (λ (y : Channel). sending (y .tx)) (at-there c (channelOf q) _ (channelOf j) (channels-differ q j (f ∙ sym e) n))
       at Transmit f (taking ph) e = ap (λ (y : Sending). sending y) (tx-there c (channelOf q) _ l refl (channelOf j))
       at Receive f (sending ph) e = ap (λ (y : Receiving). taking y) (rx-there c (channelOf q) _ l refl (channelOf j))
-      at Receive f (taking ph) e = ap (λ (y : Channel). taking (y .rx)) (at-there c (channelOf q) _ (channelOf j) (channels-differ q j (f ∙ sym e) n))
+      at Receive f (taking ph) e =
+          ap (λ (y : Channel). taking (y .rx)) (at-there c (channelOf q) _ (channelOf j) (channels-differ q j (f ∙ sym e) n))
 
 -- ---- a table near another
 
@@ -186,10 +199,24 @@ near-self q z = record {
 
 module _ {c d : Controller} {q : ℕ} (n : Near c d q) where
   pub near-state : (t : List ℕ) → NearTable (c .state) t q → Near c (setState t d) q
-  near-state t x = record { state = x; stages = n .stages; channels = n .channels; defined = n .defined; stage = n .stage; phase = λ j b m. phase-channels d _ refl j ∙ n .phase j b m }
+  near-state t x = record {
+    state = x;
+    stages = n .stages;
+    channels = n .channels;
+    defined = n .defined;
+    stage = n .stage;
+    phase = λ j b m. phase-channels d _ refl j ∙ n .phase j b m;
+  }
 
   pub near-totals : (a b : ℕ) → Near c (setTotals a b d) q
-  near-totals a b = record { state = n .state; stages = n .stages; channels = n .channels; defined = n .defined; stage = n .stage; phase = λ j b m. phase-channels d _ refl j ∙ n .phase j b m }
+  near-totals a b = record {
+    state = n .state;
+    stages = n .stages;
+    channels = n .channels;
+    defined = n .defined;
+    stage = n .stage;
+    phase = λ j b m. phase-channels d _ refl j ∙ n .phase j b m;
+  }
 
   pub near-stage : (k : ℕ) → Near c (setStage q k d) q
   near-stage k = record {
@@ -205,8 +232,22 @@ module _ {c d : Controller} {q : ℕ} (n : Near c d q) where
   near-phase l ph e = at ph (λ j b m. phase-there d q (omega (arith, n .channels)) ph e j m ∙ n .phase j b m)
     where
       at : (ph : Phase) → ((j : ℕ) → j < queues → j ≢ q → phaseOf (setPhase q ph d) j ≡ phaseOf c j) → Near c (setPhase q ph d) q
-      at (sending ph) f = record { state = n .state; stages = n .stages; channels = length-set (d .channels) (channelOf q) _ ∙ n .channels; defined = n .defined; stage = n .stage; phase = f }
-      at (taking ph) f = record { state = n .state; stages = n .stages; channels = length-set (d .channels) (channelOf q) _ ∙ n .channels; defined = n .defined; stage = n .stage; phase = f }
+      at (sending ph) f = record {
+        state = n .state;
+        stages = n .stages;
+        channels = length-set (d .channels) (channelOf q) _ ∙ n .channels;
+        defined = n .defined;
+        stage = n .stage;
+        phase = f;
+      }
+      at (taking ph) f = record {
+        state = n .state;
+        stages = n .stages;
+        channels = length-set (d .channels) (channelOf q) _ ∙ n .channels;
+        defined = n .defined;
+        stage = n .stage;
+        phase = f;
+      }
 
 -- ---- the invariant, with a controller near the old one
 
@@ -253,17 +294,20 @@ pub serves-of : (K lens : List ℕ) (w : ℕ → ℕ) (L L′ : List ℕ) (p p�
 serves-of K lens w L L′ p p′ ph ph′ e f g x = rw (e, f, g) x
 
 -- the blocks, where word 1 of each is as it was
-room-same : (side : Side) (K lens : List ℕ) (w v : ℕ → ℕ) (L : List ℕ) → All (λ y. v (y + 1) ≡ w (y + 1)) L → RoomIn side K lens w L → RoomIn side K lens v L
+room-same : (side : Side) (K lens : List ℕ) (w v : ℕ → ℕ) (L : List ℕ) → All (λ y. v (y + 1) ≡ w (y + 1)) L → RoomIn side K lens w L
+    → RoomIn side K lens v L
 room-same Transmit K lens w v L a r = tt
 room-same Receive K lens w v L a r = room-now-same K lens w v L a r
 
-room-part : (side : Side) (K lens : List ℕ) (w v : ℕ → ℕ) (n : Mode) (L : List ℕ) → RoomIn side K lens v L → RoomIn side K lens v (kept w n L)
+room-part : (side : Side) (K lens : List ℕ) (w v : ℕ → ℕ) (n : Mode) (L : List ℕ) → RoomIn side K lens v L
+    → RoomIn side K lens v (kept w n L)
 room-part Transmit K lens w v n L r = tt
 room-part Receive K lens w v n L r = kept-part _ w n L r
 
 module _ (s : Machine) (i : Inv s) (q : ℕ) (l : q < queues) {d : Controller} {p : Post} {ph : Phase} (x : Stands s d q p ph) where
   -- descriptor memory m: every queue is linked there, and every other than q has the words that it had
-  put-near : (m : List ℕ) → Fit m → ((j : ℕ) → Linked (word m) (queueAt (i .qs) j)) → ((j : ℕ) → j ≢ q → All (Same3 (wordsOf s) (word m)) (leftOf s (i .qs) j))
+  put-near : (m : List ℕ) → Fit m → ((j : ℕ) → Linked (word m) (queueAt (i .qs) j))
+      → ((j : ℕ) → j ≢ q → All (Same3 (wordsOf s) (word m)) (leftOf s (i .qs) j))
       → ((j : ℕ) → j ≢ q → kept (word m) (modeOf s) (queueAt (i .qs) j) ≡ leftOf s (i .qs) j)
       → TearingFits (commonOf s) p (idle ph)
       → Serves (s .kinds) (s .lens) (word m) (kept (word m) (modeOf s) (queueAt (i .qs) q)) (p .hdp) (p .stage) ph
@@ -285,14 +329,18 @@ module _ (s : Machine) (i : Inv s) (q : ℕ) (l : q < queues) {d : Controller} {
         turn = each (λ j. j < queues → TearingFits (commonOf u) (postOf u j) (idle (phaseOf d j))) q
             (λ b. turn-of common (x .post) (ap idle (x .phase)) t)
             (λ j o b. turn-of common (post-near s d q n m j b o) (ap idle (n .phase j b o)) (i .turn j b));
-        engine = each (λ j. j < queues → Serves (s .kinds) (s .lens) (word m) (leftOf u qs j) (postOf u j .hdp) (postOf u j .stage) (phaseOf d j)) q
+        engine = each (λ j. j < queues
+            → Serves (s .kinds) (s .lens) (word m) (leftOf u qs j) (postOf u j .hdp) (postOf u j .stage) (phaseOf d j)) q
             (λ b. serves-of (s .kinds) (s .lens) (word m) _ _ _ _ _ _ (left-near s d q n m qs q) (x .post) (x .phase) e)
-            (λ j o b. serves-of (s .kinds) (s .lens) (word m) _ _ _ _ _ _ (left-near s d q n m qs j ∙ left j o) (post-near s d q n m j b o) (n .phase j b o)
-            (serves-new (s .kinds) (s .lens) (s .lens) w (word m) (leftOf s qs j) (same j o) (lengths-same (s .lens) (leftOf s qs j)) _ _ (phaseOf (s .ctl) j) (i .engine j b)));
+            (λ j o b. serves-of (s .kinds) (s .lens) (word m) _ _ _ _ _ _ (left-near s d q n m qs j ∙ left j o) (post-near s d q n m j b o)
+            (n .phase j b o)
+            (serves-new (s .kinds) (s .lens) (s .lens) w (word m) (leftOf s qs j) (same j o) (lengths-same (s .lens) (leftOf s qs j)) _ _
+            (phaseOf (s .ctl) j) (i .engine j b)));
         room = each (λ j. j < queues → RoomIn (sideOf j) (s .kinds) (s .lens) (word m) (leftOf u qs j)) q
             (λ b. rw (left-near s d q n m qs q) r)
             (λ j o b. rw (left-near s d q n m qs j, left j o)
-            (room-same (sideOf j) (s .kinds) (s .lens) w (word m) (leftOf s qs j) (all-map (Same3 w (word m)) _ (λ y z. z .0) (leftOf s qs j) (same j o)) (i .room j b)));
+            (room-same (sideOf j) (s .kinds) (s .lens) w (word m) (leftOf s qs j)
+            (all-map (Same3 w (word m)) _ (λ y z. z .0) (leftOf s qs j) (same j o)) (i .room j b)));
       }
 
   -- registers, stage and phase alone
@@ -300,7 +348,8 @@ module _ (s : Machine) (i : Inv s) (q : ℕ) (l : q < queues) {d : Controller} {
       → Inv (withCtl d (s .mem) s)
   move-near t e =
       let w = wordsOf s in
-      put-near (s .mem) (i .held .fit) (i .held .linked) (λ j o. all-every (Same3 w w) (λ y. (refl, refl, refl)) (leftOf s (i .qs) j)) (λ j o. refl) t e (i .room q l)
+      put-near (s .mem) (i .held .fit) (i .held .linked) (λ j o. all-every (Same3 w w) (λ y. (refl, refl, refl)) (leftOf s (i .qs) j))
+      (λ j o. refl) t e (i .room q l)
 
 -- ---- a mark
 
@@ -308,7 +357,8 @@ module _ (s : Machine) (i : Inv s) (q : ℕ) (l : q < queues) {d : Controller} {
 same1 : (w v : ℕ → ℕ) (ds : List ℕ) → All (Same w v) ds → All (λ y. v (y + 1) ≡ w (y + 1)) ds
 same1 w v ds a = all-map (Same w v) (λ y. v (y + 1) ≡ w (y + 1)) (λ y s. s .1) ds a
 
-module _ (s : Machine) (i : Inv s) (q : ℕ) (m : List ℕ) (cs : List ℕ) (d : ℕ) (rs : List ℕ) (o : Only d (wordsOf s) (word m)) (e : leftOf s (i .qs) q ≡ cs ++ d ∷ rs) where
+module _ (s : Machine) (i : Inv s) (q : ℕ) (m : List ℕ) (cs : List ℕ) (d : ℕ) (rs : List ℕ) (o : Only d (wordsOf s) (word m))
+    (e : leftOf s (i .qs) q ≡ cs ++ d ∷ rs) where
   touched : Marked (wordsOf s) (word m) (modeOf s) (i .qs) q cs d rs
   touched = marked-there (wordsOf s) (word m) (modeOf s) (i .qs) q cs d rs (i .held .sole) o e
 
@@ -330,7 +380,8 @@ module _ (s : Machine) (i : Inv s) (q : ℕ) (m : List ℕ) (cs : List ℕ) (d :
       let v = word m in
       let qs = i .qs in
       let c = touched .here in
-      let one : All (λ y. v (y + 1) ≡ w (y + 1)) (cs ++ d ∷ rs) = all-join _ cs (d ∷ rs) (same1 w v cs (c .before)) (c .same1, same1 w v rs (c .behind)) in
+      let one : All (λ y. v (y + 1) ≡ w (y + 1)) (cs ++ d ∷ rs) =
+      all-join _ cs (d ∷ rs) (same1 w v cs (c .before)) (c .same1, same1 w v rs (c .behind)) in
       put-near s i q l x m f
       (each (λ j. Linked v (queueAt qs j)) q (c .linked (i .held .linked q))
       (λ j n. linked-same w v (queueAt qs j) (same-nexts w v (queueAt qs j) (touch-leaves j n)) (i .held .linked j)))
@@ -349,7 +400,8 @@ pub record Fine (s : Machine) (x : StepDone) : Type 0 where
   pub inPlace : InPlace (s .kinds) (x .burst)
   pub spares : (k : ℕ) → has (s .used) k ≡ false → word (x .mem) k ≡ wordsOf s k
 
-pub fine-quiet : {s : Machine} {c : Controller} {m : List ℕ} → Inv (withCtl c m s) → ((k : ℕ) → has (s .used) k ≡ false → word m k ≡ wordsOf s k)
+pub fine-quiet : {s : Machine} {c : Controller} {m : List ℕ} → Inv (withCtl c m s)
+    → ((k : ℕ) → has (s .used) k ≡ false → word m k ≡ wordsOf s k)
     → Fine s (answer 0 c m)
 fine-quiet i f = record { inv = i; number = refl; inPlace = tt; spares = f }
 
@@ -383,7 +435,8 @@ module _ (s : Machine) (z : Sized s) (q : ℕ) (l : q < queues) (ph : Phase) (si
           let k = tearingOf-setHdp u q h q l ∙ tearingOf-setCp t q cp q l in
           cc
 
-      at : (ph : Phase) → postOf (withCtl (setRegs q h cp (setTotals a b (setPhase q ph (s .ctl)))) (s .mem) s) q ≡ withRegs h cp (postOf s q)
+      at : (ph : Phase) → postOf (withCtl (setRegs q h cp (setTotals a b (setPhase q ph (s .ctl)))) (s .mem) s) q
+          ≡ withRegs h cp (postOf s q)
       at (sending ph) = there
       at (taking ph) = there
 

@@ -26,7 +26,8 @@ use Rattle.marks.specs.Marks.{eoqMark, ownerMark, marked}
 use Rattle.descriptor.specs.declared.Place.{Place}
 use Rattle.descriptor.specs.declared.Place.the-variants.{Start, Middle, Buffer}
 use Rattle.descriptor.proofs.RuleLaws.{ownFault-parts}
-use Rattle.marks.proofs.FlagLaws.{eoq-eoqMark, eop-eoqMark, owner-eoqMark, td-eoqMark, eoqMark-lt, owner-ownerMark, eop-ownerMark, eoq-ownerMark, td-ownerMark, ownerMark-lt}
+use Rattle.marks.proofs.FlagLaws.{eoq-eoqMark, eop-eoqMark, owner-eoqMark, td-eoqMark, eoqMark-lt, owner-ownerMark, eop-ownerMark}
+use Rattle.marks.proofs.FlagLaws.{eoq-ownerMark, td-ownerMark, ownerMark-lt}
 use Rattle.registers.specs.Table.{tearingOf, resetOf}
 use Rattle.queue.proofs.Queue.{start, Linked, Fresh}
 use Rattle.queue.proofs.StoreLaws.{marked-only}
@@ -43,11 +44,14 @@ use Rattle.phases.specs.declared.Sends.the-variants.{Went, Unfit}
 use Rattle.phases.specs.Transmit.{toPhase, latched, fetch, advanced, readBurst, close, markEoq, clearOwn, finish, sendStep}
 use Rattle.controller.specs.Controller.{txOf, sendMoved, added, heldBack, transmitStep}
 use Rattle.machine.specs.Machine.{Machine}
-use Rattle.safety.proofs.Inv.{Sendable, Ready, Spot, Latched, Through, placeAfter, Fetched, TxInv, idleTx, sending, Post, postOf, commonOf, wordsOf, leftOf, TearingFits, Inv}
+use Rattle.safety.proofs.Inv.{Sendable, Ready, Spot, Latched, Through, placeAfter, Fetched, TxInv, idleTx, sending, Post, postOf}
+use Rattle.safety.proofs.Inv.{commonOf, wordsOf, leftOf, TearingFits, Inv}
 use Rattle.safety.proofs.Ends.{top-start, latched as latched-next, spot-linked, spot-next}
-use Rattle.safety.proofs.Marks.{side-queue, channel-queue, queue-lt, phase-queue, word-fits, marked-fits, marked-reads, withRegs, turn-move, turn-done}
+use Rattle.safety.proofs.Marks.{side-queue, channel-queue, queue-lt, phase-queue, word-fits, marked-fits, marked-reads, withRegs}
+use Rattle.safety.proofs.Marks.{turn-move, turn-done}
 use Rattle.safety.proofs.Touch.{Fine, went, move-fine}
-use Rattle.safety.proofs.LastSteps.{pointer-good, pointer-word, left-linked, spot-first, mark-last, mark-first, through-idle, through-ready}
+use Rattle.safety.proofs.LastSteps.{pointer-good, pointer-word, left-linked, spot-first, mark-last, mark-first, through-idle}
+use Rattle.safety.proofs.LastSteps.{through-ready}
 
 -- ---- what a step of a fit record computes to
 
@@ -105,17 +109,21 @@ module _ (s : Machine) (i : Inv s) (ch : ℕ) (l : ch < channels) where
   -- ---- a step that goes on
 
   sends : (r : Sent) (m : List ℕ)
-      → Fine s (went q (sending (r .state)) (r .hdp) (r .cp) (added (s .ctl .sent) (r .octets)) (s .ctl .received) (r .burst) m (s .ctl)) → After (Went r) m
+      → Fine s (went q (sending (r .state)) (r .hdp) (r .cp) (added (s .ctl .sent) (r .octets)) (s .ctl .received) (r .burst) m (s .ctl))
+      → After (Went r) m
   sends r m f = rw (channel-queue Transmit ch) at f
 
   -- no burst, and memory as it was
-  quietly : (ph : Sending) (h cp : ℕ) → TearingFits (commonOf s) (withRegs h cp here) (idleTx ph) → Stands h ph → After (toPhase ph h cp) (s .mem)
-  quietly ph h cp t e = sends _ (s .mem) (move-fine s i q (queue-lt Transmit ch l) (sending ph) (side-queue Transmit ch) h cp _ _ Quiet tt t e)
+  quietly : (ph : Sending) (h cp : ℕ) → TearingFits (commonOf s) (withRegs h cp here) (idleTx ph) → Stands h ph
+      → After (toPhase ph h cp) (s .mem)
+  quietly ph h cp t e =
+      sends _ (s .mem) (move-fine s i q (queue-lt Transmit ch l) (sending ph) (side-queue Transmit ch) h cp _ _ Quiet tt t e)
 
   module _ (t : TearingFits (commonOf s) here false) where
     -- ---- step 1
 
-    fetch-fine : (pl : Place) → sideAt pl ≡ Transmit → (p : ℕ) (z : Spot w L p (here .hdp) (here .stage)) → Sendable (s .kinds) w pl (z .d ∷ z .rs)
+    fetch-fine : (pl : Place) → sideAt pl ≡ Transmit → (p : ℕ) (z : Spot w L p (here .hdp) (here .stage))
+        → Sendable (s .kinds) w pl (z .d ∷ z .rs)
         → After (fetch w pl p (here .hdp) (here .cp)) (s .mem)
     fetch-fine pl side p z f =
         let d = z .d in
@@ -138,10 +146,12 @@ module _ (s : Machine) (i : Inv s) (ch : ℕ) (l : ch < channels) where
 
     -- a new packet
     new-fine : Ready (Sendable (s .kinds) w Start) L (here .hdp) (here .stage)
-        → After (pick (heldBack (s .ctl) q) (toPhase New (here .hdp) (here .cp)) (fetch w Start (here .hdp) (here .hdp) (here .cp))) (s .mem)
+        → After (pick (heldBack (s .ctl) q) (toPhase New (here .hdp) (here .cp)) (fetch w Start (here .hdp) (here .hdp) (here .cp)))
+        (s .mem)
     new-fine r = at (heldBack (s .ctl) q) refl
       where
-        fetches : ((here .stage ≡ 1) × (start L ≡ here .hdp) × Sendable (s .kinds) w Start L) ⊎ ((here .stage ≡ 2) × (L ≡ [])) → here .stage ≡ 1
+        fetches : ((here .stage ≡ 1) × (start L ≡ here .hdp) × Sendable (s .kinds) w Start L) ⊎ ((here .stage ≡ 2) × (L ≡ []))
+            → here .stage ≡ 1
             → After (fetch w Start (here .hdp) (here .hdp) (here .cp)) (s .mem)
         fetches (inl x) one =
             let e = x .1 in
@@ -174,7 +184,8 @@ module _ (s : Machine) (i : Inv s) (ch : ℕ) (l : ch < channels) where
     moving-fine r e =
         rw (burst-is r (here .hdp) (here .cp) (e .some) (e .below))
         (sends _ (s .mem)
-        (move-fine s i q (queue-lt Transmit ch l) (sending (advanced r n)) (side-queue Transmit ch) (here .hdp) (here .cp) _ _ (Read (r .at) n)
+        (move-fine s i q (queue-lt Transmit ch l) (sending (advanced r n)) (side-queue Transmit ch) (here .hdp) (here .cp) _ _
+        (Read (r .at) n)
         (λ x a b. room-free Transmit (s .kinds) (r .at) (r .left) (e .room) (e .some) x (a, omega (arith, b)))
         (on-turn (ltb n (r .left))) (on (ltb n (r .left)) refl)))
       where
@@ -182,7 +193,8 @@ module _ (s : Machine) (i : Inv s) (ch : ℕ) (l : ch < channels) where
         n = min 64 (r .left)
 
         more : Sending
-        more = Moving (record { sop = r .sop; word3 = r .word3; sum = r .sum; at = r .at + n; left = r .left - n; next = r .next; eop = r .eop })
+        more = Moving (record
+            { sop = r .sop; word3 = r .word3; sum = r .sum; at = r .at + n; left = r .left - n; next = r .next; eop = r .eop })
 
         ended : Sending
         ended = Ended (record { sop = r .sop; word3 = r .word3; sum = r .sum; next = r .next; eop = r .eop })
@@ -198,7 +210,8 @@ module _ (s : Machine) (i : Inv s) (ch : ℕ) (l : ch < channels) where
               fetched = e .fetched;
               some = omega (arith, k);
               below = omega (arith, k, e .below);
-              room = room-inside Transmit (s .kinds) (r .at) (r .left) (r .at + n) (r .left - n) (e .room) (omega arith) (omega (arith, k)) (omega (arith, k));
+              room = room-inside Transmit (s .kinds) (r .at) (r .left) (r .at + n) (r .left - n) (e .room) (omega arith) (omega (arith, k))
+                  (omega (arith, k));
             }
         on false c = e .fetched
 
@@ -215,12 +228,19 @@ module _ (s : Machine) (i : Inv s) (ch : ℕ) (l : ch < channels) where
         within = Within (record { sop = e .sop; word3 = e .word3; sum = e .sum })
 
         at : (b : Bool) → Fetched (s .kinds) w L (here .hdp) (here .stage) (e .sop) (e .word3) (e .sum) (e .next) b
-            → After (pick b (pick (goodPtr (here .hdp)) (toPhase (marking (w (wordOf (here .hdp)))) (here .hdp) (here .cp)) Unfit) (toPhase within (e .next) (here .cp))) (s .mem)
+            → After (pick b (pick (goodPtr (here .hdp)) (toPhase (marking (w (wordOf (here .hdp)))) (here .hdp) (here .cp)) Unfit)
+            (toPhase within (e .next) (here .cp))) (s .mem)
         at true f =
             let z = f .spot in
             rw (pointer-good (z .here) (z .small), pointer-word (z .here))
             (quietly (marking (w (z .d))) (here .hdp) (here .cp) t
-            (record { spot = z; todo = f .todo; last = f .last; clean = f .clean; latch = latched-next (z .rs) (w (z .d)) (spot-linked w L z linked .1) }))
+            (record {
+              spot = z;
+              todo = f .todo;
+              last = f .last;
+              clean = f .clean;
+              latch = latched-next (z .rs) (w (z .d)) (spot-linked w L z linked .1);
+            }))
         at false f = go (f .spot .rs) refl
           where
             go : (rs : List ℕ) → f .spot .rs ≡ rs → After (toPhase within (e .next) (here .cp)) (s .mem)
@@ -229,13 +249,15 @@ module _ (s : Machine) (i : Inv s) (ch : ℕ) (l : ch < channels) where
                 let lr : Linked w (r ∷ rs) = rw x at (spot-linked w L (f .spot) linked .2) in
                 quietly within (e .next) (here .cp) (turn-move t (e .next))
                 (record {
-                  spot = spot-next w L (e .sop) (here .hdp) (here .stage) (f .spot) r rs x (lr .0) (f .last) (e .next) (f .next refl ∙ ap start x);
+                  spot = spot-next w L (e .sop) (here .hdp) (here .stage) (f .spot) r rs x (lr .0) (f .last) (e .next)
+                      (f .next refl ∙ ap start x);
                   todo = rw x at (f .todo);
                 })
 
     -- ---- step 4
 
-    marking-fine : (c : Closing) → Stands (here .hdp) (Marking c) → Fine s (sendMoved ch (markEoq (s .mem) c (here .hdp) (here .cp)) (s .ctl) (s .mem))
+    marking-fine : (c : Closing) → Stands (here .hdp) (Marking c)
+        → Fine s (sendMoved ch (markEoq (s .mem) c (here .hdp) (here .cp)) (s .ctl) (s .mem))
     unfolding markEoq
     marking-fine c e = at (e .latch)
       where
@@ -252,27 +274,42 @@ module _ (s : Machine) (i : Inv s) (ch : ℕ) (l : ch < channels) where
         there = marked-reads eoqMark (z .d) (s .mem) small (i .held .fit) (z .small)
 
         at : Latched (z .rs) (c .next)
-            → Fine s (sendMoved ch (pick (eqb (c .next) 0) (pick (goodPtr (here .hdp)) (toPhase (Owning c) (here .hdp) (here .cp), marked eoqMark (wordOf (here .hdp)) (s .mem)) (Unfit, s .mem)) (toPhase (Owning c) (here .hdp) (here .cp), s .mem)) (s .ctl) (s .mem))
+            → Fine s (sendMoved ch
+            (pick (eqb (c .next) 0)
+            (pick (goodPtr (here .hdp)) (toPhase (Owning c) (here .hdp) (here .cp), marked eoqMark (wordOf (here .hdp)) (s .mem))
+            (Unfit, s .mem)) (toPhase (Owning c) (here .hdp) (here .cp), s .mem)) (s .ctl) (s .mem))
         at (inl n) =
             rw (eq-eqb (c .next) 0 n, pointer-good (z .here) (z .small), pointer-word (z .here))
             (sends _ (marked eoqMark (z .d) (s .mem))
-            (mark-last s i q (queue-lt Transmit ch l) Transmit (sending (Owning c)) (side-queue Transmit ch) t (c .sop) (c .next) z (e .todo)
-            (marked eoqMark (z .d) (s .mem)) (marked-only eoqMark (z .d) (s .mem)) (marked-fits eoqMark (z .d) (s .mem) small (i .held .fit))
-            (ap owner there ∙ owner-eoqMark x) (ap td there ∙ td-eoqMark x) (ap eop there ∙ eop-eoqMark x ∙ e .last) (inl (n, ap eoq there ∙ eoq-eoqMark x))
+            (mark-last s i q (queue-lt Transmit ch l) Transmit (sending (Owning c)) (side-queue Transmit ch) t (c .sop) (c .next) z
+            (e .todo)
+            (marked eoqMark (z .d) (s .mem)) (marked-only eoqMark (z .d) (s .mem))
+            (marked-fits eoqMark (z .d) (s .mem) small (i .held .fit))
+            (ap owner there ∙ owner-eoqMark x) (ap td there ∙ td-eoqMark x) (ap eop there ∙ eop-eoqMark x ∙ e .last)
+            (inl (n, ap eoq there ∙ eoq-eoqMark x))
             (λ ds o. o) _ _))
         at (inr n) =
             rw (ne-eqb (c .next) 0 (n .1))
-            (quietly (Owning c) (here .hdp) (here .cp) t (record { spot = z; todo = e .todo; last = e .last; latch = inr (n .0, e .clean, n .1) }))
+            (quietly (Owning c) (here .hdp) (here .cp) t
+            (record { spot = z; todo = e .todo; last = e .last; latch = inr (n .0, e .clean, n .1) }))
 
     -- ---- step 5
 
-    owning-fine : (c : Closing) → Stands (here .hdp) (Owning c) → Fine s (sendMoved ch (clearOwn (s .mem) c (here .hdp) (here .cp)) (s .ctl) (s .mem))
+    owning-fine : (c : Closing) → Stands (here .hdp) (Owning c)
+        → Fine s (sendMoved ch (clearOwn (s .mem) c (here .hdp) (here .cp)) (s .ctl) (s .mem))
     unfolding clearOwn
     owning-fine c o =
         rw (spot-first w L (o .spot) linked)
         (sends _ (marked ownerMark (wordOf (c .sop)) (s .mem))
-        (mark-first s i q (queue-lt Transmit ch l) Transmit (sending (Done (record { next = c .next }))) (side-queue Transmit ch) t (c .sop) (c .next) o ownerMark
-        (λ x b. record { small = ownerMark-lt x b; end = eop-ownerMark x; last = eoq-ownerMark x; whole = td-ownerMark x; given = owner-ownerMark x })
+        (mark-first s i q (queue-lt Transmit ch l) Transmit (sending (Done (record { next = c .next }))) (side-queue Transmit ch) t
+        (c .sop) (c .next) o ownerMark
+        (λ x b. record {
+          small = ownerMark-lt x b;
+          end = eop-ownerMark x;
+          last = eoq-ownerMark x;
+          whole = td-ownerMark x;
+          given = owner-ownerMark x;
+        })
         (λ ds r. r) _ _))
 
     -- ---- step 6
@@ -283,7 +320,8 @@ module _ (s : Machine) (i : Inv s) (ch : ℕ) (l : ch < channels) where
       where
         at : (b : Bool) → eqb n 0 ≡ b → After (toPhase (pick b Idle New) n (here .hdp)) (s .mem)
         at true e = quietly Idle n (here .hdp) (turn-done t (r .good) n true (λ x. eqb-true n 0 e)) (through-idle _ L r (eqb-true n 0 e))
-        at false e = quietly New n (here .hdp) (turn-done t (r .good) n false (λ x. clash x refl)) (through-ready _ L r w linked (eqb-false n 0 e))
+        at false e = quietly New n (here .hdp) (turn-done t (r .good) n false (λ x. clash x refl))
+            (through-ready _ L r w linked (eqb-false n 0 e))
 
   -- ---- every step
 

@@ -29,7 +29,8 @@ use Rattle.safety.proofs.Calm.{heads-seen, all-linked}
 pub release-twice : (s : World) → soundWorld s ≡ true → release (release s) ≡ release s
 unfolding soundWorld soundBook
 release-twice s e =
-    at (both-left (flagsFit (s .state)) _ e) (sound-queues (word (s .mem)) (headsOf (s .state)) (s .used) (s .lens) (both-right (flagsFit (s .state)) _ e))
+    at (both-left (flagsFit (s .state)) _ e)
+    (sound-queues (word (s .mem)) (headsOf (s .state)) (s .used) (s .lens) (both-right (flagsFit (s .state)) _ e))
   where
     w : ℕ → ℕ
     w = word (s .mem)
@@ -44,14 +45,18 @@ release-twice s e =
         let x = withHeads (starts ks) (s .state) in
         let t = releasedFlags x in
         let one : release s ≡ setState t (setUses u s) =
-        release-parts s (starts ks) u (rw (q .heads) (released-queues w n (q .qs) [] (s .used, s .lens) (q .linked) (rw (append-nil (flat (q .qs))) (q .sole)))) in
-        let many : length (starts ks) ≡ length (headsOf (s .state)) = length-starts ks ∙ length-kept w n (q .qs) ∙ sym (length-starts (q .qs)) ∙ ap length (sym (q .heads)) in
+        release-parts s (starts ks) u
+        (rw (q .heads) (released-queues w n (q .qs) [] (s .used, s .lens) (q .linked) (rw (append-nil (flat (q .qs))) (q .sole)))) in
+        let many : length (starts ks) ≡ length (headsOf (s .state)) = length-starts ks ∙ length-kept w n (q .qs)
+        ∙ sym (length-starts (q .qs)) ∙ ap length (sym (q .heads)) in
         let heads : headsOf t ≡ starts ks = heads-flags x ∙ headsOf-withHeads (starts ks) (s .state) many in
         let same : withHeads (starts ks) t ≡ t = ap (λ (h : List ℕ). withHeads h t) (sym heads) ∙ take-append-drop queues t in
         let again : release (setState t (setUses u s)) ≡ setState (releasedFlags (withHeads (starts ks) t)) (setUses u s) =
-        release-parts (setState t (setUses u s)) (starts ks) u (rw (over-flags x, heads) (released-again w n (q .qs) (s .used, s .lens) (q .linked) (q .sole))) in
+        release-parts (setState t (setUses u s)) (starts ks) u
+        (rw (over-flags x, heads) (released-again w n (q .qs) (s .used, s .lens) (q .linked) (q .sole))) in
         let two : release (setState t (setUses u s)) ≡ setState t (setUses u s) =
-        again ∙ ap (λ (y : List ℕ). setState y (setUses u s)) (ap releasedFlags same ∙ flags-twice x (fit-withHeads (starts ks) (s .state) many ∙ fit)) in
+        again ∙ ap (λ (y : List ℕ). setState y (setUses u s))
+        (ap releasedFlags same ∙ flags-twice x (fit-withHeads (starts ks) (s .state) many ∙ fit)) in
         ap release one ∙ two ∙ sym one
 
 -- ---- answers 1 and 2

@@ -43,7 +43,8 @@ use Rattle.safety.proofs.Handed.{handed-write, handed-kind}
 
 -- ---- refusals, of the machine
 
-refused-machine : (a x : ℕ) (o : Outcome) (s : Machine) → numberOf (o .answer) ≢ 0 → Untouched (worldOf s) o → Alone s (carriedOut a x o s .machine)
+refused-machine : (a x : ℕ) (o : Outcome) (s : Machine) → numberOf (o .answer) ≢ 0 → Untouched (worldOf s) o
+    → Alone s (carriedOut a x o s .machine)
 refused-machine a x o s n u = rw (ne-eqb (numberOf (o .answer)) 0 n) (record {
   ctl = refl;
   mem = u .mem;
@@ -102,12 +103,14 @@ module _ (s : Machine) (i : Inv s) where
   transmits : (c : ℕ) → c < channels → hdpOf (s .ctl .state) (queueOf Transmit c) ≡ 0 → txOf (s .ctl) c ≡ S.Idle
   transmits c h z =
       let q = queueOf Transmit c in
-      tx-zero _ _ _ (hdpOf (s .ctl .state) q) _ (txOf (s .ctl) c) (rw (phase-queue Transmit (s .ctl) c) at (i .engine q (queue-lt Transmit c h))) z
+      tx-zero _ _ _ (hdpOf (s .ctl .state) q) _ (txOf (s .ctl) c)
+      (rw (phase-queue Transmit (s .ctl) c) at (i .engine q (queue-lt Transmit c h))) z
 
   receives : (c : ℕ) → c < channels → hdpOf (s .ctl .state) (queueOf Receive c) ≡ 0 → rxOf (s .ctl) c ≡ R.Idle
   receives c h z =
       let q = queueOf Receive c in
-      rx-zero _ _ _ (hdpOf (s .ctl .state) q) _ (rxOf (s .ctl) c) (rw (phase-queue Receive (s .ctl) c) at (i .engine q (queue-lt Receive c h))) z
+      rx-zero _ _ _ (hdpOf (s .ctl .state) q) _ (rxOf (s .ctl) c)
+      (rw (phase-queue Receive (s .ctl) c) at (i .engine q (queue-lt Receive c h))) z
 
   -- the queue of an idle engine is empty
   rests-transmit : (c : ℕ) → c < channels → txOf (s .ctl) c ≡ S.Idle → headOf (release (worldOf s) .state) (queueOf Transmit c) ≡ 0

@@ -84,7 +84,8 @@ module _ (a v : ℕ) (small : v < 2 ^ 32) (s : Machine) (c : Calm s) (whole : eq
       write-memory a v (s .ctl) (put (s .mem) k v) (length-put (s .mem) k v ∙ c .held .fit .size) (c .defined) whole there
       ∙ ap (λ (m : List ℕ). answer 0 (s .ctl) m) (put-put-same (s .mem) k v v)
 
-  append-passes : (q : ℕ) → q < length (headsOf (s .state)) → isLast (wordsOf s) (getD (headsOf (s .state)) q 0) k ≡ true → Passes a v s (judgeAppend q k v (bookOf s))
+  append-passes : (q : ℕ) → q < length (headsOf (s .state)) → isLast (wordsOf s) (getD (headsOf (s .state)) q 0) k ≡ true
+      → Passes a v s (judgeAppend q k v (bookOf s))
   unfolding judgeAppend
   append-passes q h e =
       let l : q < queues = omega (arith, length-take queues (s .state)) in
@@ -99,7 +100,8 @@ module _ (a v : ℕ) (small : v < 2 ^ 32) (s : Machine) (c : Calm s) (whole : eq
   unfolding judgeLast
   last-passes = at (tailIn (wordsOf s) k 0 (headsOf (s .state))) refl
     where
-      at : (t : Tail) → tailIn (wordsOf s) k 0 (headsOf (s .state)) ≡ t → Passes a v s (atTail t (λ q. judgeAppend q k v (bookOf s)) (refuse 11 (bookOf s)))
+      at : (t : Tail) → tailIn (wordsOf s) k 0 (headsOf (s .state)) ≡ t
+          → Passes a v s (atTail t (λ q. judgeAppend q k v (bookOf s)) (refuse 11 (bookOf s)))
       at Nobody e = passes-refuse a v s 11 (bookOf s) (omega arith)
       at (Of q) e = let f = tail-yes (wordsOf s) k (headsOf (s .state)) q e in append-passes q (f .0) (f .1)
 
@@ -107,6 +109,7 @@ module _ (a v : ℕ) (small : v < 2 ^ 32) (s : Machine) (c : Calm s) (whole : eq
   unfolding judgeWord
   word-passes =
       passes-pick a v s (has (s .used) k) _ _
-      (λ e. passes-pick a v s (both (eqb (wordsOf s k) 0) (not (eqb v 0))) _ _ (λ f. last-passes) (λ f. passes-refuse a v s 11 (bookOf s) (omega arith)))
+      (λ e. passes-pick a v s (both (eqb (wordsOf s k) 0) (not (eqb v 0))) _ _ (λ f. last-passes)
+      (λ f. passes-refuse a v s 11 (bookOf s) (omega arith)))
       (λ e. passes-accept a v s Plain (setMem (put (s .mem) k v) (bookOf s)) (answer 0 (s .ctl) (put (s .mem) k v)) stored-twice refl
       (calm-inv _ (store-calm s c k v small e)))

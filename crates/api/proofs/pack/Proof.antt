@@ -38,10 +38,12 @@ returns : tie.Need-returns
 returns c = simp (c .before .before .before .a .given .1, c .enum-told .given .1)
 
 returns-2 : tie.Need-returns-2
-returns-2 c = simp (c .pack-place .ensures .0, c .before .before .before .before .before .a .given .1, c .before .before .e .given .1) (omega arith)
+returns-2 c = simp (c .pack-place .ensures .0, c .before .before .before .before .before .a .given .1, c .before .before .e .given .1)
+    (omega arith)
 
 returns-3 : tie.Need-returns-3
-returns-3 c = simp (c .pack-place2 .ensures .0, c .before .before .before .before .before .a .given .1, c .before .before .e2 .given .1) (omega arith)
+returns-3 c = simp (c .pack-place2 .ensures .0, c .before .before .before .before .before .a .given .1, c .before .before .e2 .given .1)
+    (omega arith)
 
 returns-4 : tie.Need-returns-4
 returns-4 c = simp (c .before .a2 .given .1) (omega arith)

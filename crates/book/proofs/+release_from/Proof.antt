@@ -32,7 +32,8 @@ release-from-below t =
 abbrev release-from-cl : ℕ → release-from-lts.Claims
 release-from-cl t = (release-at-reads.Asked, release-at-reads.Learnt, release-from-below t, release-from.Post)
 
-release-from-release-at-requires : (t : ℕ) → release-from-lts.Need-release-at-requires (release-from-cl t) (release-from-at t) release-from.Post
+release-from-release-at-requires : (t : ℕ)
+    → release-from-lts.Need-release-at-requires (release-from-cl t) (release-from-at t) release-from.Post
 release-from-release-at-requires t c κs = c .before .before .before .pre .1
 
 release-from-enum-told : (t : ℕ) → release-from-lts.Need-enum-told (release-from-cl t) (release-from-at t) release-from.Post
@@ -41,7 +42,8 @@ release-from-enum-told t c = search needs
 release-from-enum-known-turn : (t : ℕ) → release-from-lts.Need-enum-known-turn (release-from-cl t) (release-from-at t) release-from.Post
 release-from-enum-known-turn t c = search needs
 
-release-from-release-from-requires : (t : ℕ) → release-from-lts.Need-release-from-requires (release-from-cl t) (release-from-at t) release-from.Post
+release-from-release-from-requires : (t : ℕ)
+    → release-from-lts.Need-release-from-requires (release-from-cl t) (release-from-at t) release-from.Post
 release-from-release-from-requires t c κs =
     let n = c .before .before .before in
     let s = n .before .before .before .before .before .before in

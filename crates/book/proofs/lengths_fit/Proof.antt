@@ -20,7 +20,8 @@ abbrev μ-loop : tie.MeasureT-loop
 returns : tie.Need-returns Inv-loop μ-loop
 returns c =
     let s = c .before .before .before in
-    allTwo-length lengthFits (s .args .firsts .now) (s .args .lens .now) (c .if1 .taken) ∙ lengthsFit-is (s .args .firsts .now) (s .args .lens .now)
+    allTwo-length lengthFits (s .args .firsts .now) (s .args .lens .now) (c .if1 .taken)
+    ∙ lengthsFit-is (s .args .firsts .now) (s .args .lens .now)
 
 loop-holds : tie.Need-loop-holds Inv-loop μ-loop
 loop-holds c = (omega arith, refl)
@@ -51,8 +52,11 @@ loop-again c =
     let l = c .before .before .before .before .before .loop in
     let s = c .before .before .before .before .before .before .before .before .before in
     let h : l .i < length (s .args .firsts .now) = omega arith in
-    let k : l .i < length (s .args .lens .now) = omega arith in
-    (omega arith, c .is-both .ensures ∙ ap (λ (t : Bool). both (l .fit) t) (c .before .length-fits .ensures) ∙ allTwo-more lengthFits (s .args .firsts .now) (s .args .lens .now) (l .i) h k (l .inv .1))
+    let k : l .i < length (s .args .lens .now) = omega arith in (
+      omega arith,
+      c .is-both .ensures ∙ ap (λ (t : Bool). both (l .fit) t) (c .before .length-fits .ensures)
+          ∙ allTwo-more lengthFits (s .args .firsts .now) (s .args .lens .now) (l .i) h k (l .inv .1),
+    )
 
 returns-2 : tie.Need-returns-2 Inv-loop μ-loop
 returns-2 c =
@@ -60,7 +64,8 @@ returns-2 c =
     let s = c .before .before .before .before .before in
     let h : length (s .args .firsts .now) ≤ l .i = omega arith in
     let k : length (s .args .lens .now) ≤ l .i = omega arith in
-    l .inv .1 ∙ allTwo-whole lengthFits (s .args .firsts .now) (s .args .lens .now) (l .i) h k ∙ lengthsFit-is (s .args .firsts .now) (s .args .lens .now)
+    l .inv .1 ∙ allTwo-whole lengthFits (s .args .firsts .now) (s .args .lens .now) (l .i) h k
+    ∙ lengthsFit-is (s .args .firsts .now) (s .args .lens .now)
 
 pub lengths-fit-spec : {M : Type 1} → statement M
 lengths-fit-spec =

@@ -28,7 +28,13 @@ has-owner-requires c κs = search needs
 
 returns-2 : tie.Need-returns-2
 unfolding plan
-returns-2 c = simp (c .before .before .before .before .enum-told3 .given .1, ← c .before .before .before .has-td .ensures, c .before .before .if1 .left, ← c .before .has-owner .ensures, c .if2 .taken)
+returns-2 c = simp (
+  c .before .before .before .before .enum-told3 .given .1,
+  ← c .before .before .before .has-td .ensures,
+  c .before .before .if1 .left,
+  ← c .before .has-owner .ensures,
+  c .if2 .taken,
+)
 
 plan-through-requires-2 : tie.Need-plan-through-requires-2
 plan-through-requires-2 c κs = search needs
@@ -43,7 +49,14 @@ returns-4 c = simp (c .plan-through .ensures, c .before .enum-told2 .given .1)
 
 returns-5 : tie.Need-returns-5
 unfolding plan
-returns-5 c = simp (c .plan-through2 .ensures, c .before .before .before .before .before .enum-told3 .given .1, ← c .before .before .before .before .has-td .ensures, c .before .before .before .if1 .left, ← c .before .before .has-owner .ensures, c .before .if2 .left)
+returns-5 c = simp (
+  c .plan-through2 .ensures,
+  c .before .before .before .before .before .enum-told3 .given .1,
+  ← c .before .before .before .before .has-td .ensures,
+  c .before .before .before .if1 .left,
+  ← c .before .before .has-owner .ensures,
+  c .before .if2 .left,
+)
 
 pub plan-of-spec : {M : Type 1} → statement M
 plan-of-spec =

@@ -14,10 +14,18 @@ has-eoq-requires : tie.Need-has-eoq-requires
 has-eoq-requires c κs = search needs
 
 returns-2 : tie.Need-returns-2
-returns-2 c = simp (yes-of (c .before .before .before .has-eop .ensures) (c .before .before .if1 .left), ← c .before .has-eoq .ensures, c .if2 .taken)
+returns-2 c = simp (
+  yes-of (c .before .before .before .has-eop .ensures) (c .before .before .if1 .left),
+  ← c .before .has-eoq .ensures,
+  c .if2 .taken,
+)
 
 returns-3 : tie.Need-returns-3
-returns-3 c = simp (yes-of (c .before .before .before .has-eop .ensures) (c .before .before .if1 .left), ← c .before .has-eoq .ensures, c .if2 .left)
+returns-3 c = simp (
+  yes-of (c .before .before .before .has-eop .ensures) (c .before .before .if1 .left),
+  ← c .before .has-eoq .ensures,
+  c .if2 .left,
+)
 
 pub plan-through-spec : {M : Type 1} → statement M
 plan-through-spec =

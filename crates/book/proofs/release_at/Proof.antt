@@ -20,7 +20,8 @@ is-used-requires c κs = search needs
 returns-2 : tie.Need-returns-2
 returns-2 c =
     let g = c .before .before .before .before in
-    releaseStep-free _ _ _ _ (yes-of (g .before .is-good .ensures) (g .if1 .left)) (c .before .before .before .word-number .ensures .0) (no-of (c .before .is-used .ensures) (c .if2 .taken))
+    releaseStep-free _ _ _ _ (yes-of (g .before .is-good .ensures) (g .if1 .left)) (c .before .before .before .word-number .ensures .0)
+    (no-of (c .before .is-used .ensures) (c .if2 .taken))
 
 add-word-of : tie.Need-add-word-of
 add-word-of c = search needs

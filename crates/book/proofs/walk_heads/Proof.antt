@@ -36,7 +36,8 @@ loop-less : tie.Need-loop-less Inv-loop μ-loop
 loop-less c = search needs
 
 loop-again : tie.Need-loop-again Inv-loop μ-loop
-loop-again c = walking-next (search needs) (c .before .walk-from .ensures) (c .is-both .ensures) (c .before .before .before .before .before .before .loop .inv)
+loop-again c = walking-next (search needs) (c .before .walk-from .ensures) (c .is-both .ensures)
+    (c .before .before .before .before .before .before .loop .inv)
 
 returns : tie.Need-returns Inv-loop μ-loop
 returns c = walking-last (omega arith) (c .before .loop .inv)

@@ -1,4 +1,5 @@
--- `chain::start_rule` and `chain::middle_rule` call each other along the transmit chain; the words not yet met fall at each call. Assumes nothing.
+-- `chain::start_rule` and `chain::middle_rule` call each other along the transmit chain; the words not yet met fall at each call. Assumes
+-- nothing.
 use borrow.Author.Needs.{needs}
 use mathlib.Core.Path.{refl, _∙_}
 use Rattle.words.specs.WordSet.{view, freeCount}
@@ -42,12 +43,27 @@ start-rule-below t =
     and 5 start-rule-kinds.ps (falls 5 start-rule-kinds.ps _<_ μ-start-rule t) start-rule.Pre
 
 abbrev middle-rule-cl : ℕ → middle-rule-lts.Claims
-middle-rule-cl t = (judge-middle-reads.Asked, judge-middle-reads.Learnt, start-rule-below t, start-rule.Post, middle-rule-below t, middle-rule.Post)
+middle-rule-cl t = (
+  judge-middle-reads.Asked,
+  judge-middle-reads.Learnt,
+  start-rule-below t,
+  start-rule.Post,
+  middle-rule-below t,
+  middle-rule.Post,
+)
 
 abbrev start-rule-cl : ℕ → start-rule-lts.Claims
-start-rule-cl t = (judge-start-reads.Asked, judge-start-reads.Learnt, start-rule-below t, start-rule.Post, middle-rule-below t, middle-rule.Post)
+start-rule-cl t = (
+  judge-start-reads.Asked,
+  judge-start-reads.Learnt,
+  start-rule-below t,
+  start-rule.Post,
+  middle-rule-below t,
+  middle-rule.Post,
+)
 
-middle-rule-judge-middle-requires : (t : ℕ) → middle-rule-lts.Need-judge-middle-requires (middle-rule-cl t) (middle-rule-at t) middle-rule.Post
+middle-rule-judge-middle-requires : (t : ℕ)
+    → middle-rule-lts.Need-judge-middle-requires (middle-rule-cl t) (middle-rule-at t) middle-rule.Post
 middle-rule-judge-middle-requires t c κs = search needs
 
 middle-rule-enum-known-h : (t : ℕ) → middle-rule-lts.Need-enum-known-h (middle-rule-cl t) (middle-rule-at t) middle-rule.Post
@@ -58,26 +74,40 @@ middle-rule-enum-known-h-2 t c = search needs
 
 middle-rule-start-rule-requires : (t : ℕ) → middle-rule-lts.Need-start-rule-requires (middle-rule-cl t) (middle-rule-at t) middle-rule.Post
 unfolding transmitStep
-middle-rule-start-rule-requires t c κs = (transmit-less _ _ _ _ _ _ _ (c .before .before .before .before .judge-middle .ensures) (transmit.Start _) (c .before .before .h2 .given .1) _ refl t (c .before .before .before .before .before .before .before .before .pre .0), c .before .before .before .before .before .before .before .before .pre .1)
+middle-rule-start-rule-requires t c κs = (
+  transmit-less _ _ _ _ _ _ _ (c .before .before .before .before .judge-middle .ensures) (transmit.Start _)
+      (c .before .before .h2 .given .1) _ refl t (c .before .before .before .before .before .before .before .before .pre .0),
+  c .before .before .before .before .before .before .before .before .pre .1,
+)
 
 middle-rule-enum-known-h-3 : (t : ℕ) → middle-rule-lts.Need-enum-known-h-3 (middle-rule-cl t) (middle-rule-at t) middle-rule.Post
 middle-rule-enum-known-h-3 t c = search needs
 
-middle-rule-middle-rule-requires : (t : ℕ) → middle-rule-lts.Need-middle-rule-requires (middle-rule-cl t) (middle-rule-at t) middle-rule.Post
+middle-rule-middle-rule-requires : (t : ℕ)
+    → middle-rule-lts.Need-middle-rule-requires (middle-rule-cl t) (middle-rule-at t) middle-rule.Post
 unfolding transmitStep
-middle-rule-middle-rule-requires t c κs = (transmit-less _ _ _ _ _ _ _ (c .before .before .before .before .judge-middle .ensures) (transmit.Middle _ _ _) (c .before .before .h3 .given .1) _ refl t (c .before .before .before .before .before .before .before .before .pre .0), c .before .before .before .before .before .before .before .before .pre .1)
+middle-rule-middle-rule-requires t c κs = (
+  transmit-less _ _ _ _ _ _ _ (c .before .before .before .before .judge-middle .ensures) (transmit.Middle _ _ _)
+      (c .before .before .h3 .given .1) _ refl t (c .before .before .before .before .before .before .before .before .pre .0),
+  c .before .before .before .before .before .before .before .before .pre .1,
+)
 
 middle-rule-returns : (t : ℕ) → middle-rule-lts.Need-returns (middle-rule-cl t) (middle-rule-at t) middle-rule.Post
 unfolding transmitStep
-middle-rule-returns t c = transmit-eq _ _ _ _ _ _ _ (c .before .before .before .judge-middle .ensures) (transmit.Stop _) (c .before .h .given .1)
+middle-rule-returns t c =
+    transmit-eq _ _ _ _ _ _ _ (c .before .before .before .judge-middle .ensures) (transmit.Stop _) (c .before .h .given .1)
 
 middle-rule-returns-2 : (t : ℕ) → middle-rule-lts.Need-returns-2 (middle-rule-cl t) (middle-rule-at t) middle-rule.Post
 unfolding transmitStep
-middle-rule-returns-2 t c = c .start-rule .ensures ∙ transmit-eq _ _ _ _ _ _ _ (c .before .before .before .before .before .judge-middle .ensures) (transmit.Start _) (c .before .before .before .h2 .given .1)
+middle-rule-returns-2 t c = c .start-rule .ensures
+    ∙ transmit-eq _ _ _ _ _ _ _ (c .before .before .before .before .before .judge-middle .ensures) (transmit.Start _)
+    (c .before .before .before .h2 .given .1)
 
 middle-rule-returns-3 : (t : ℕ) → middle-rule-lts.Need-returns-3 (middle-rule-cl t) (middle-rule-at t) middle-rule.Post
 unfolding transmitStep
-middle-rule-returns-3 t c = c .middle-rule .ensures ∙ transmit-eq _ _ _ _ _ _ _ (c .before .before .before .before .before .judge-middle .ensures) (transmit.Middle _ _ _) (c .before .before .before .h3 .given .1)
+middle-rule-returns-3 t c = c .middle-rule .ensures
+    ∙ transmit-eq _ _ _ _ _ _ _ (c .before .before .before .before .before .judge-middle .ensures) (transmit.Middle _ _ _)
+    (c .before .before .before .h3 .given .1)
 
 start-rule-judge-start-requires : (t : ℕ) → start-rule-lts.Need-judge-start-requires (start-rule-cl t) (start-rule-at t) start-rule.Post
 start-rule-judge-start-requires t c κs = search needs
@@ -90,26 +120,39 @@ start-rule-enum-known-h-2 t c = search needs
 
 start-rule-start-rule-requires : (t : ℕ) → start-rule-lts.Need-start-rule-requires (start-rule-cl t) (start-rule-at t) start-rule.Post
 unfolding transmitStep
-start-rule-start-rule-requires t c κs = (transmit-less _ _ _ _ _ _ _ (c .before .before .before .before .judge-start .ensures) (transmit.Start _) (c .before .before .h2 .given .1) _ refl t (c .before .before .before .before .before .before .before .before .pre .0), c .before .before .before .before .before .before .before .before .pre .1)
+start-rule-start-rule-requires t c κs = (
+  transmit-less _ _ _ _ _ _ _ (c .before .before .before .before .judge-start .ensures) (transmit.Start _)
+      (c .before .before .h2 .given .1) _ refl t (c .before .before .before .before .before .before .before .before .pre .0),
+  c .before .before .before .before .before .before .before .before .pre .1,
+)
 
 start-rule-enum-known-h-3 : (t : ℕ) → start-rule-lts.Need-enum-known-h-3 (start-rule-cl t) (start-rule-at t) start-rule.Post
 start-rule-enum-known-h-3 t c = search needs
 
 start-rule-middle-rule-requires : (t : ℕ) → start-rule-lts.Need-middle-rule-requires (start-rule-cl t) (start-rule-at t) start-rule.Post
 unfolding transmitStep
-start-rule-middle-rule-requires t c κs = (transmit-less _ _ _ _ _ _ _ (c .before .before .before .before .judge-start .ensures) (transmit.Middle _ _ _) (c .before .before .h3 .given .1) _ refl t (c .before .before .before .before .before .before .before .before .pre .0), c .before .before .before .before .before .before .before .before .pre .1)
+start-rule-middle-rule-requires t c κs = (
+  transmit-less _ _ _ _ _ _ _ (c .before .before .before .before .judge-start .ensures) (transmit.Middle _ _ _)
+      (c .before .before .h3 .given .1) _ refl t (c .before .before .before .before .before .before .before .before .pre .0),
+  c .before .before .before .before .before .before .before .before .pre .1,
+)
 
 start-rule-returns : (t : ℕ) → start-rule-lts.Need-returns (start-rule-cl t) (start-rule-at t) start-rule.Post
 unfolding transmitStep
-start-rule-returns t c = transmit-eq _ _ _ _ _ _ _ (c .before .before .before .judge-start .ensures) (transmit.Stop _) (c .before .h .given .1)
+start-rule-returns t c =
+    transmit-eq _ _ _ _ _ _ _ (c .before .before .before .judge-start .ensures) (transmit.Stop _) (c .before .h .given .1)
 
 start-rule-returns-2 : (t : ℕ) → start-rule-lts.Need-returns-2 (start-rule-cl t) (start-rule-at t) start-rule.Post
 unfolding transmitStep
-start-rule-returns-2 t c = c .start-rule .ensures ∙ transmit-eq _ _ _ _ _ _ _ (c .before .before .before .before .before .judge-start .ensures) (transmit.Start _) (c .before .before .before .h2 .given .1)
+start-rule-returns-2 t c = c .start-rule .ensures
+    ∙ transmit-eq _ _ _ _ _ _ _ (c .before .before .before .before .before .judge-start .ensures) (transmit.Start _)
+    (c .before .before .before .h2 .given .1)
 
 start-rule-returns-3 : (t : ℕ) → start-rule-lts.Need-returns-3 (start-rule-cl t) (start-rule-at t) start-rule.Post
 unfolding transmitStep
-start-rule-returns-3 t c = c .middle-rule .ensures ∙ transmit-eq _ _ _ _ _ _ _ (c .before .before .before .before .before .judge-start .ensures) (transmit.Middle _ _ _) (c .before .before .before .h3 .given .1)
+start-rule-returns-3 t c = c .middle-rule .ensures
+    ∙ transmit-eq _ _ _ _ _ _ _ (c .before .before .before .before .before .judge-start .ensures) (transmit.Middle _ _ _)
+    (c .before .before .before .h3 .given .1)
 
 pub +middle-rule+start-rule-spec : {M : Type 1} → statement M
 +middle-rule+start-rule-spec = close μ-middle-rule μ-start-rule (λ t. middle-rule-lts.spec (middle-rule-cl t) (middle-rule-at t)

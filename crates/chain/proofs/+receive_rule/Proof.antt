@@ -33,7 +33,8 @@ receive-rule-below t =
 abbrev receive-rule-cl : ℕ → receive-rule-lts.Claims
 receive-rule-cl t = (judge-buffer-reads.Asked, judge-buffer-reads.Learnt, receive-rule-below t, receive-rule.Post)
 
-receive-rule-judge-buffer-requires : (t : ℕ) → receive-rule-lts.Need-judge-buffer-requires (receive-rule-cl t) (receive-rule-at t) receive-rule.Post
+receive-rule-judge-buffer-requires : (t : ℕ)
+    → receive-rule-lts.Need-judge-buffer-requires (receive-rule-cl t) (receive-rule-at t) receive-rule.Post
 receive-rule-judge-buffer-requires t c κs = search needs
 
 receive-rule-enum-known-h : (t : ℕ) → receive-rule-lts.Need-enum-known-h (receive-rule-cl t) (receive-rule-at t) receive-rule.Post
@@ -42,17 +43,25 @@ receive-rule-enum-known-h t c = search needs
 receive-rule-enum-known-h-2 : (t : ℕ) → receive-rule-lts.Need-enum-known-h-2 (receive-rule-cl t) (receive-rule-at t) receive-rule.Post
 receive-rule-enum-known-h-2 t c = search needs
 
-receive-rule-receive-rule-requires : (t : ℕ) → receive-rule-lts.Need-receive-rule-requires (receive-rule-cl t) (receive-rule-at t) receive-rule.Post
+receive-rule-receive-rule-requires : (t : ℕ)
+    → receive-rule-lts.Need-receive-rule-requires (receive-rule-cl t) (receive-rule-at t) receive-rule.Post
 unfolding receiveStep
-receive-rule-receive-rule-requires t c κs = (receive-less _ _ _ _ _ _ _ (c .before .before .before .before .judge-buffer .ensures) (receive.Buffer _) (c .before .before .h2 .given .1) _ refl t (c .before .before .before .before .before .before .before .before .pre .0), c .before .before .before .before .before .before .before .before .pre .1)
+receive-rule-receive-rule-requires t c κs = (
+  receive-less _ _ _ _ _ _ _ (c .before .before .before .before .judge-buffer .ensures) (receive.Buffer _)
+      (c .before .before .h2 .given .1) _ refl t (c .before .before .before .before .before .before .before .before .pre .0),
+  c .before .before .before .before .before .before .before .before .pre .1,
+)
 
 receive-rule-returns : (t : ℕ) → receive-rule-lts.Need-returns (receive-rule-cl t) (receive-rule-at t) receive-rule.Post
 unfolding receiveStep
-receive-rule-returns t c = receive-eq _ _ _ _ _ _ _ (c .before .before .before .judge-buffer .ensures) (receive.Stop _) (c .before .h .given .1)
+receive-rule-returns t c =
+    receive-eq _ _ _ _ _ _ _ (c .before .before .before .judge-buffer .ensures) (receive.Stop _) (c .before .h .given .1)
 
 receive-rule-returns-2 : (t : ℕ) → receive-rule-lts.Need-returns-2 (receive-rule-cl t) (receive-rule-at t) receive-rule.Post
 unfolding receiveStep
-receive-rule-returns-2 t c = c .receive-rule .ensures ∙ receive-eq _ _ _ _ _ _ _ (c .before .before .before .before .before .judge-buffer .ensures) (receive.Buffer _) (c .before .before .before .h2 .given .1)
+receive-rule-returns-2 t c = c .receive-rule .ensures
+    ∙ receive-eq _ _ _ _ _ _ _ (c .before .before .before .before .before .judge-buffer .ensures) (receive.Buffer _)
+    (c .before .before .before .h2 .given .1)
 
 pub +receive-rule-spec : {M : Type 1} → statement M
 +receive-rule-spec = close μ-receive-rule λ t. receive-rule-lts.spec (receive-rule-cl t) (receive-rule-at t)

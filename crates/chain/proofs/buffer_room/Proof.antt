@@ -16,7 +16,8 @@ cast-len : tie.Need-cast-len
 cast-len c = search needs
 
 room-of-requires : tie.Need-room-of-requires
-room-of-requires c κs = omega (arith, lengthFault-length _ _ _ _ (c .before .before .before .pre), lengthFault-end _ _ _ _ (c .before .before .before .pre))
+room-of-requires c κs =
+    omega (arith, lengthFault-length _ _ _ _ (c .before .before .before .pre), lengthFault-end _ _ _ _ (c .before .before .before .pre))
 
 returns : tie.Need-returns
 returns c = c .room-of .ensures ∙ simp (c .before .before .first-byte .ensures .0, c .before .length-of .ensures .0)

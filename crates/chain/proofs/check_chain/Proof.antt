@@ -13,7 +13,9 @@ use Rattle.chain.proofs.check_chain.Tie as tie
 -- the place that the rules name is a word, and with 16 the descriptor there has its length in order
 told : (c : tie.After-follow)
     → (c .follow .result / 256 < 2 ^ 32)
-    × (c .follow .result % 256 ≡ 16 → Measured (word (c .before .before .before .before .args .m .now)) (c .before .before .before .before .args .side) (c .follow .result / 256))
+    × (c .follow .result % 256 ≡ 16
+    → Measured (word (c .before .before .before .before .args .m .now)) (c .before .before .before .before .args .side)
+    (c .follow .result / 256))
 told c =
     let s = c .before .before .before .before in
     follow-told _ _ _ _ _ _ _ (c .follow .ensures)

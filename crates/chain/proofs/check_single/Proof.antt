@@ -12,13 +12,17 @@ fault-in-use-requires c κs = let s = c .before .before .before in (s .pre .0, e
 
 verdict-at-requires : tie.Need-verdict-at-requires
 verdict-at-requires c κs =
-    let f = c .before in
-    (f .before .before .before .pre .0, single-16 (f .before .before .before .args .kinds .now) _ _ (f .before .before .before .args .used .now) _ _ _ (f .first-place .ensures) (c .fault-in-use .ensures))
+    let f = c .before in (
+      f .before .before .before .pre .0,
+      single-16 (f .before .before .before .args .kinds .now) _ _ (f .before .before .before .args .used .now) _ _ _
+          (f .first-place .ensures) (c .fault-in-use .ensures),
+    )
 
 returns : tie.Need-returns
 returns c =
     let f = c .before .before in
-    verdict-single _ _ _ _ _ _ _ (f .first-place .ensures) (c .before .fault-in-use .ensures) (f .before .before .before .pre .1) _ (c .verdict-at .ensures)
+    verdict-single _ _ _ _ _ _ _ (f .first-place .ensures) (c .before .fault-in-use .ensures) (f .before .before .before .pre .1) _
+    (c .verdict-at .ensures)
 
 pub check-single-spec : {M : Type 1} → statement M
 check-single-spec =

@@ -13,7 +13,8 @@ flags-fault-requires : tie.Need-flags-fault-requires
 flags-fault-requires c κs = search needs
 
 returns : tie.Need-returns
-returns c = sym (descFault-words _ _ _ _ _ (c .before .before .descriptor-at .ensures) ∙ simp (← c .before .flags-fault .ensures, ne-eqb _ _ (c .if1 .taken)))
+returns c = sym (descFault-words _ _ _ _ _ (c .before .before .descriptor-at .ensures)
+    ∙ simp (← c .before .flags-fault .ensures, ne-eqb _ _ (c .if1 .taken)))
 
 side-at-requires : tie.Need-side-at-requires
 side-at-requires c κs = search needs
@@ -22,19 +23,47 @@ length-fault-requires : tie.Need-length-fault-requires
 length-fault-requires c κs = search needs
 
 returns-2 : tie.Need-returns-2
-returns-2 c = sym (descFault-words _ _ _ _ _ (c .before .before .before .before .before .descriptor-at .ensures) ∙ simp (← c .before .before .before .before .flags-fault .ensures, eq-eqb _ _ (c .before .before .before .if1 .left), ← c .before .before .side-at .ensures, ← c .before .length-fault .ensures, ne-eqb _ _ (c .if2 .taken)))
+returns-2 c = sym (descFault-words _ _ _ _ _ (c .before .before .before .before .before .descriptor-at .ensures)
+    ∙ simp (
+      ← c .before .before .before .before .flags-fault .ensures,
+      eq-eqb _ _ (c .before .before .before .if1 .left),
+      ← c .before .before .side-at .ensures,
+      ← c .before .length-fault .ensures,
+      ne-eqb _ _ (c .if2 .taken),
+    ))
 
 block-fault-requires : tie.Need-block-fault-requires
 block-fault-requires c κs = search needs
 
 returns-3 : tie.Need-returns-3
-returns-3 c = sym (descFault-words _ _ _ _ _ (c .before .before .before .before .before .before .before .descriptor-at .ensures) ∙ simp (← c .before .before .before .before .before .before .flags-fault .ensures, eq-eqb _ _ (c .before .before .before .before .before .if1 .left), ← c .before .before .before .before .side-at .ensures, ← c .before .before .before .length-fault .ensures, eq-eqb _ _ (c .before .before .if2 .left), ← c .before .block-fault .ensures, ne-eqb _ _ (c .if3 .taken)))
+returns-3 c = sym (descFault-words _ _ _ _ _ (c .before .before .before .before .before .before .before .descriptor-at .ensures)
+    ∙ simp (
+      ← c .before .before .before .before .before .before .flags-fault .ensures,
+      eq-eqb _ _ (c .before .before .before .before .before .if1 .left),
+      ← c .before .before .before .before .side-at .ensures,
+      ← c .before .before .before .length-fault .ensures,
+      eq-eqb _ _ (c .before .before .if2 .left),
+      ← c .before .block-fault .ensures,
+      ne-eqb _ _ (c .if3 .taken),
+    ))
 
 sum-fault-requires : tie.Need-sum-fault-requires
 sum-fault-requires c κs = search needs
 
 returns-4 : tie.Need-returns-4
-returns-4 c = sym (descFault-words _ _ _ _ _ (c .before .before .before .before .before .before .before .before .before .descriptor-at .ensures) ∙ simp (← c .before .before .before .before .before .before .before .before .flags-fault .ensures, eq-eqb _ _ (c .before .before .before .before .before .before .before .if1 .left), ← c .before .before .before .before .before .before .side-at .ensures, ← c .before .before .before .before .before .length-fault .ensures, eq-eqb _ _ (c .before .before .before .before .if2 .left), ← c .before .before .before .block-fault .ensures, eq-eqb _ _ (c .before .before .if3 .left), ← c .before .sum-fault .ensures, ne-eqb _ _ (c .if4 .taken)))
+returns-4 c = sym (descFault-words _ _ _ _ _
+    (c .before .before .before .before .before .before .before .before .before .descriptor-at .ensures)
+    ∙ simp (
+      ← c .before .before .before .before .before .before .before .before .flags-fault .ensures,
+      eq-eqb _ _ (c .before .before .before .before .before .before .before .if1 .left),
+      ← c .before .before .before .before .before .before .side-at .ensures,
+      ← c .before .before .before .before .before .length-fault .ensures,
+      eq-eqb _ _ (c .before .before .before .before .if2 .left),
+      ← c .before .before .before .block-fault .ensures,
+      eq-eqb _ _ (c .before .before .if3 .left),
+      ← c .before .sum-fault .ensures,
+      ne-eqb _ _ (c .if4 .taken),
+    ))
 
 behind-requires : tie.Need-behind-requires
 behind-requires c κs = search needs
@@ -43,7 +72,21 @@ next-fault-requires : tie.Need-next-fault-requires
 next-fault-requires c κs = search needs
 
 returns-5 : tie.Need-returns-5
-returns-5 c = sym (descFault-words _ _ _ _ _ (c .before .before .before .before .before .before .before .before .before .before .before .descriptor-at .ensures) ∙ simp (← c .before .before .before .before .before .before .before .before .before .before .flags-fault .ensures, eq-eqb _ _ (c .before .before .before .before .before .before .before .before .before .if1 .left), ← c .before .before .before .before .before .before .before .before .side-at .ensures, ← c .before .before .before .before .before .before .before .length-fault .ensures, eq-eqb _ _ (c .before .before .before .before .before .before .if2 .left), ← c .before .before .before .before .before .block-fault .ensures, eq-eqb _ _ (c .before .before .before .before .if3 .left), ← c .before .before .before .sum-fault .ensures, eq-eqb _ _ (c .before .before .if4 .left), ← c .before .behind .ensures, ← c .next-fault .ensures))
+returns-5 c = sym (descFault-words _ _ _ _ _
+    (c .before .before .before .before .before .before .before .before .before .before .before .descriptor-at .ensures)
+    ∙ simp (
+      ← c .before .before .before .before .before .before .before .before .before .before .flags-fault .ensures,
+      eq-eqb _ _ (c .before .before .before .before .before .before .before .before .before .if1 .left),
+      ← c .before .before .before .before .before .before .before .before .side-at .ensures,
+      ← c .before .before .before .before .before .before .before .length-fault .ensures,
+      eq-eqb _ _ (c .before .before .before .before .before .before .if2 .left),
+      ← c .before .before .before .before .before .block-fault .ensures,
+      eq-eqb _ _ (c .before .before .before .before .if3 .left),
+      ← c .before .before .before .sum-fault .ensures,
+      eq-eqb _ _ (c .before .before .if4 .left),
+      ← c .before .behind .ensures,
+      ← c .next-fault .ensures,
+    ))
 
 pub descriptor-fault-spec : {M : Type 1} → statement M
 descriptor-fault-spec =

@@ -21,14 +21,23 @@ is-free-requires c κs = search needs
 
 returns-2 : tie.Need-returns-2
 unfolding faultAt
-returns-2 c = simp (yes-of (c .before .before .before .before .is-good .ensures) (c .before .before .before .if1 .left), ← c .before .before .word-number .ensures .0, no-of (c .before .is-free .ensures) (c .if2 .taken))
+returns-2 c = simp (
+  yes-of (c .before .before .before .before .is-good .ensures) (c .before .before .before .if1 .left),
+  ← c .before .before .word-number .ensures .0,
+  no-of (c .before .is-free .ensures) (c .if2 .taken),
+)
 
 descriptor-fault-requires : tie.Need-descriptor-fault-requires
 descriptor-fault-requires c κs = search needs
 
 returns-3 : tie.Need-returns-3
 unfolding faultAt
-returns-3 c = c .descriptor-fault .ensures ∙ simp (yes-of (c .before .before .before .before .before .is-good .ensures) (c .before .before .before .before .if1 .left), ← c .before .before .before .word-number .ensures .0, yes-of (c .before .before .is-free .ensures) (c .before .if2 .left))
+returns-3 c = c .descriptor-fault .ensures
+    ∙ simp (
+      yes-of (c .before .before .before .before .before .is-good .ensures) (c .before .before .before .before .if1 .left),
+      ← c .before .before .before .word-number .ensures .0,
+      yes-of (c .before .before .is-free .ensures) (c .before .if2 .left),
+    )
 
 pub fault-at-spec : {M : Type 1} → statement M
 fault-at-spec =

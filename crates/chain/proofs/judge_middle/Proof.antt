@@ -13,7 +13,8 @@ refused-requires : tie.Need-refused-requires
 refused-requires c κs = search needs
 
 returns : tie.Need-returns
-returns c = transmit-refused _ _ _ _ _ _ (c .before .before .fault-at .ensures) _ (c .before .if1 .taken) (c .before .before .fault-at .ok) (c .refused .ensures)
+returns c = transmit-refused _ _ _ _ _ _ (c .before .before .fault-at .ensures) _ (c .before .if1 .taken) (c .before .before .fault-at .ok)
+    (c .refused .ensures)
 
 word-number-requires : tie.Need-word-number-requires
 word-number-requires c κs = faultAt-none _ _ _ _ _ (sym (c .before .fault-at .ensures) ∙ c .if1 .left) .0
@@ -28,7 +29,9 @@ transmit-past-requires : tie.Need-transmit-past-requires
 transmit-past-requires c κs = search needs
 
 returns-2 : tie.Need-returns-2
-returns-2 c = transmit-past _ _ _ _ _ _ (c .before .before .before .before .before .before .fault-at .ensures) (c .before .before .before .before .before .if1 .left) _ (c .before .before .before .before .word-number .ensures .0) _ (c .before .before .add-four .ensures) _ _ refl (c .before .descriptor-at .ensures) (c .transmit-past .ensures)
+returns-2 c = transmit-past _ _ _ _ _ _ (c .before .before .before .before .before .before .fault-at .ensures)
+    (c .before .before .before .before .before .if1 .left) _ (c .before .before .before .before .word-number .ensures .0) _
+    (c .before .before .add-four .ensures) _ _ refl (c .before .descriptor-at .ensures) (c .transmit-past .ensures)
 
 pub judge-middle-spec : {M : Type 1} → statement M
 judge-middle-spec =

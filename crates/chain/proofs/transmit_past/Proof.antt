@@ -24,7 +24,13 @@ sum-at-requires c κs = search needs
 
 returns-3 : tie.Need-returns-3
 unfolding transmitPast
-returns-3 c = simp (ne-eqb _ _ (c .before .before .before .before .if1 .left), ← c .before .before .before .has-eop .ensures, c .before .before .if2 .left, c .before .sop-at .ensures, c .sum-at .ensures)
+returns-3 c = simp (
+  ne-eqb _ _ (c .before .before .before .before .if1 .left),
+  ← c .before .before .before .has-eop .ensures,
+  c .before .before .if2 .left,
+  c .before .sop-at .ensures,
+  c .sum-at .ensures,
+)
 
 pub transmit-past-spec : {M : Type 1} → statement M
 transmit-past-spec =

@@ -21,7 +21,8 @@ buffer-room-requires : tie.Need-buffer-room-requires
 buffer-room-requires c κs =
     let e = c .before .before in
     let s = e .before .before .before .before in
-    measured-words (s .args .kinds .now) _ _ _ _ _ (c .before .word-number .ensures .0) (c .descriptor-at .ensures) (s .pre .1 (e .if2 .left))
+    measured-words (s .args .kinds .now) _ _ _ _ _ (c .before .word-number .ensures .0) (c .descriptor-at .ensures)
+    (s .pre .1 (e .if2 .left))
 
 returns-3 : tie.Need-returns-3
 returns-3 c =

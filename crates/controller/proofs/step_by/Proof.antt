@@ -74,7 +74,9 @@ unfolding stepOf
 returns-3 c =
     let a = c .before .before .before .before .before .before .args in
     let m = a .m .now in
-    c .reset-step .ensures m ∙ sym (entry-goes (a .c) m (moveOf (a .e) (a .c) m) (c .before .before .before .before .if1 .left) (c .before .before .before .if2 .left) ∙ ap (λ (e : Engine). moveOf e (a .c) m) (c .before .enum-told .given .1))
+    c .reset-step .ensures m
+    ∙ sym (entry-goes (a .c) m (moveOf (a .e) (a .c) m) (c .before .before .before .before .if1 .left)
+    (c .before .before .before .if2 .left) ∙ ap (λ (e : Engine). moveOf e (a .c) m) (c .before .enum-told .given .1))
 
 same-length : tie.Need-same-length
 same-length c = search needs
@@ -84,7 +86,10 @@ unfolding stepOf
 returns-4 c =
     let a = c .before .before .before .before .before .before .before .before .before .before .args in
     let m = a .m .now in
-    c .before .before .transmit-step .ensures ∙ sym (entry-goes (a .c) m (moveOf (a .e) (a .c) m) (c .before .before .before .before .before .before .before .before .if1 .left) (c .before .before .before .before .before .before .before .if2 .left) ∙ ap (λ (e : Engine). moveOf e (a .c) m) (c .before .before .before .before .before .e .given .1))
+    c .before .before .transmit-step .ensures
+    ∙ sym (entry-goes (a .c) m (moveOf (a .e) (a .c) m) (c .before .before .before .before .before .before .before .before .if1 .left)
+    (c .before .before .before .before .before .before .before .if2 .left)
+    ∙ ap (λ (e : Engine). moveOf e (a .c) m) (c .before .before .before .before .before .e .given .1))
 
 same-length-2 : tie.Need-same-length-2
 same-length-2 c = search needs
@@ -94,7 +99,10 @@ unfolding stepOf
 returns-5 c =
     let a = c .before .before .before .before .before .before .before .before .before .before .args in
     let m = a .m .now in
-    c .before .before .receive-step .ensures ∙ sym (entry-goes (a .c) m (moveOf (a .e) (a .c) m) (c .before .before .before .before .before .before .before .before .if1 .left) (c .before .before .before .before .before .before .before .if2 .left) ∙ ap (λ (e : Engine). moveOf e (a .c) m) (c .before .before .before .before .before .e2 .given .1))
+    c .before .before .receive-step .ensures
+    ∙ sym (entry-goes (a .c) m (moveOf (a .e) (a .c) m) (c .before .before .before .before .before .before .before .before .if1 .left)
+    (c .before .before .before .before .before .before .before .if2 .left)
+    ∙ ap (λ (e : Engine). moveOf e (a .c) m) (c .before .before .before .before .before .e2 .given .1))
 
 same-length-3 : tie.Need-same-length-3
 same-length-3 c = search needs
@@ -104,7 +112,10 @@ unfolding stepOf
 returns-6 c =
     let a = c .before .before .before .before .before .before .before .before .before .before .args in
     let m = a .m .now in
-    c .before .before .tear-step .ensures ∙ sym (entry-goes (a .c) m (moveOf (a .e) (a .c) m) (c .before .before .before .before .before .before .before .before .if1 .left) (c .before .before .before .before .before .before .before .if2 .left) ∙ ap (λ (e : Engine). moveOf e (a .c) m) (c .before .before .before .before .before .e3 .given .1))
+    c .before .before .tear-step .ensures
+    ∙ sym (entry-goes (a .c) m (moveOf (a .e) (a .c) m) (c .before .before .before .before .before .before .before .before .if1 .left)
+    (c .before .before .before .before .before .before .before .if2 .left)
+    ∙ ap (λ (e : Engine). moveOf e (a .c) m) (c .before .before .before .before .before .e3 .given .1))
 
 same-length-4 : tie.Need-same-length-4
 same-length-4 c = search needs
@@ -114,7 +125,10 @@ unfolding stepOf
 returns-7 c =
     let a = c .before .before .before .before .before .before .before .before .before .before .args in
     let m = a .m .now in
-    c .before .before .tear-step2 .ensures ∙ sym (entry-goes (a .c) m (moveOf (a .e) (a .c) m) (c .before .before .before .before .before .before .before .before .if1 .left) (c .before .before .before .before .before .before .before .if2 .left) ∙ ap (λ (e : Engine). moveOf e (a .c) m) (c .before .before .before .before .before .e4 .given .1))
+    c .before .before .tear-step2 .ensures
+    ∙ sym (entry-goes (a .c) m (moveOf (a .e) (a .c) m) (c .before .before .before .before .before .before .before .before .if1 .left)
+    (c .before .before .before .before .before .before .before .if2 .left)
+    ∙ ap (λ (e : Engine). moveOf e (a .c) m) (c .before .before .before .before .before .e4 .given .1))
 
 pub step-by-spec : {M : Type 1} → statement M
 step-by-spec =

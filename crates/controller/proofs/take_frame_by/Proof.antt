@@ -7,7 +7,8 @@ use Rattle.phases.specs.declared.Receiving.the-variants.{Fetch}
 use Rattle.phases.specs.Quiet.{waits}
 use Rattle.controller.specs.declared.Controller.{Controller}
 use Rattle.controller.specs.Controller.{framed, heldBack, setRx}
-use Rattle.controller.proofs.EntryLaws.{frame-undefined, frame-empty, frame-long, frame-headless, frame-busy, frame-held, frame-taken}
+use Rattle.controller.proofs.EntryLaws.{frame-undefined, frame-empty, frame-long, frame-headless, frame-busy, frame-held}
+use Rattle.controller.proofs.EntryLaws.{frame-taken}
 use borrow.Author.Needs.{needs}
 use Rattle.controller.proofs.take_frame_by.Statement.{statement}
 use Rattle.controller.proofs.take_frame_by.Tie as tie
@@ -34,7 +35,8 @@ answer-frame-requires-3 c κs = search needs
 returns-3 : tie.Need-returns-3
 returns-3 c =
     let a = c .before .before .before .before .args in
-    c .answer-frame3 .ensures ∙ sym (frame-long (a .n) (a .c) (c .before .before .before .if1 .left) (c .before .before .if2 .left) (c .before .if3 .taken))
+    c .answer-frame3 .ensures
+    ∙ sym (frame-long (a .n) (a .c) (c .before .before .before .if1 .left) (c .before .before .if2 .left) (c .before .if3 .taken))
 
 queue-of-requires : tie.Need-queue-of-requires
 queue-of-requires c κs = search needs
@@ -48,8 +50,12 @@ answer-frame-requires-4 c κs = search needs
 returns-4 : tie.Need-returns-4
 returns-4 c =
     let a = c .before .before .before .before .before .before .before .args in
-    let first = c .before .before .hdp-of .ensures ∙ ap (λ (q : ℕ). hdpOf (a .c .state) q) (c .before .before .before .queue-of .ensures .0) in
-    c .answer-frame4 .ensures ∙ sym (frame-headless (a .n) (a .c) (c .before .before .before .before .before .before .if1 .left) (c .before .before .before .before .before .if2 .left) (c .before .before .before .before .if3 .left) (sym first ∙ c .before .if4 .taken))
+    let first = c .before .before .hdp-of .ensures
+    ∙ ap (λ (q : ℕ). hdpOf (a .c .state) q) (c .before .before .before .queue-of .ensures .0) in
+    c .answer-frame4 .ensures
+    ∙ sym (frame-headless (a .n) (a .c) (c .before .before .before .before .before .before .if1 .left)
+    (c .before .before .before .before .before .if2 .left) (c .before .before .before .before .if3 .left)
+    (sym first ∙ c .before .if4 .taken))
 
 rx-of-requires : tie.Need-rx-of-requires
 rx-of-requires c κs = search needs
@@ -63,9 +69,15 @@ answer-frame-requires-5 c κs = search needs
 returns-5 : tie.Need-returns-5
 returns-5 c =
     let a = c .before .before .before .before .before .before .before .before .before .before .args in
-    let first = c .before .before .before .before .before .hdp-of .ensures ∙ ap (λ (q : ℕ). hdpOf (a .c .state) q) (c .before .before .before .before .before .before .queue-of .ensures .0) in
-    let busy = no-of (c .before .before .is-waiting .ensures ∙ ap waits (c .before .before .before .rx-of .ensures)) (c .before .if5 .taken) in
-    c .answer-frame5 .ensures ∙ sym (frame-busy (a .n) (a .c) (c .before .before .before .before .before .before .before .before .before .if1 .left) (c .before .before .before .before .before .before .before .before .if2 .left) (c .before .before .before .before .before .before .before .if3 .left) (λ e. c .before .before .before .before .if4 .left (first ∙ e)) busy)
+    let first = c .before .before .before .before .before .hdp-of .ensures
+    ∙ ap (λ (q : ℕ). hdpOf (a .c .state) q) (c .before .before .before .before .before .before .queue-of .ensures .0) in
+    let busy = no-of (c .before .before .is-waiting .ensures ∙ ap waits (c .before .before .before .rx-of .ensures))
+    (c .before .if5 .taken) in
+    c .answer-frame5 .ensures
+    ∙ sym (frame-busy (a .n) (a .c) (c .before .before .before .before .before .before .before .before .before .if1 .left)
+    (c .before .before .before .before .before .before .before .before .if2 .left)
+    (c .before .before .before .before .before .before .before .if3 .left)
+    (λ e. c .before .before .before .before .if4 .left (first ∙ e)) busy)
 
 is-held-requires : tie.Need-is-held-requires
 is-held-requires c κs = search needs
@@ -76,10 +88,20 @@ answer-frame-requires-6 c κs = search needs
 returns-6 : tie.Need-returns-6
 returns-6 c =
     let a = c .before .before .before .before .before .before .before .before .before .before .before .before .args in
-    let first = c .before .before .before .before .before .before .before .hdp-of .ensures ∙ ap (λ (q : ℕ). hdpOf (a .c .state) q) (c .before .before .before .before .before .before .before .before .queue-of .ensures .0) in
-    let ready = yes-of (c .before .before .before .before .is-waiting .ensures ∙ ap waits (c .before .before .before .before .before .rx-of .ensures)) (c .before .before .before .if5 .left) in
-    let stopped = sym (c .before .before .is-held .ensures ∙ ap (λ (q : ℕ). heldBack (a .c) q) (c .before .before .before .before .before .before .before .before .queue-of .ensures .0)) ∙ c .before .if6 .taken in
-    c .answer-frame6 .ensures ∙ sym (frame-held (a .n) (a .c) (c .before .before .before .before .before .before .before .before .before .before .before .if1 .left) (c .before .before .before .before .before .before .before .before .before .before .if2 .left) (c .before .before .before .before .before .before .before .before .before .if3 .left) (λ e. c .before .before .before .before .before .before .if4 .left (first ∙ e)) ready stopped)
+    let first = c .before .before .before .before .before .before .before .hdp-of .ensures
+    ∙ ap (λ (q : ℕ). hdpOf (a .c .state) q)
+    (c .before .before .before .before .before .before .before .before .queue-of .ensures .0) in
+    let ready = yes-of (c .before .before .before .before .is-waiting .ensures
+    ∙ ap waits (c .before .before .before .before .before .rx-of .ensures)) (c .before .before .before .if5 .left) in
+    let stopped = sym (c .before .before .is-held .ensures
+    ∙ ap (λ (q : ℕ). heldBack (a .c) q) (c .before .before .before .before .before .before .before .before .queue-of .ensures .0))
+    ∙ c .before .if6 .taken in
+    c .answer-frame6 .ensures
+    ∙ sym (frame-held (a .n) (a .c)
+    (c .before .before .before .before .before .before .before .before .before .before .before .if1 .left)
+    (c .before .before .before .before .before .before .before .before .before .before .if2 .left)
+    (c .before .before .before .before .before .before .before .before .before .if3 .left)
+    (λ e. c .before .before .before .before .before .before .if4 .left (first ∙ e)) ready stopped)
 
 set-rx-requires : tie.Need-set-rx-requires
 set-rx-requires c κs = search needs
@@ -90,11 +112,22 @@ answer-frame-requires-7 c κs = search needs
 returns-7 : tie.Need-returns-7
 returns-7 c =
     let a = c .before .before .before .before .before .before .before .before .before .before .before .before .before .args in
-    let first = c .before .before .before .before .before .before .before .before .hdp-of .ensures ∙ ap (λ (q : ℕ). hdpOf (a .c .state) q) (c .before .before .before .before .before .before .before .before .before .queue-of .ensures .0) in
-    let ready = yes-of (c .before .before .before .before .before .is-waiting .ensures ∙ ap waits (c .before .before .before .before .before .before .rx-of .ensures)) (c .before .before .before .before .if5 .left) in
-    let free = sym (c .before .before .before .is-held .ensures ∙ ap (λ (q : ℕ). heldBack (a .c) q) (c .before .before .before .before .before .before .before .before .before .queue-of .ensures .0)) ∙ c .before .before .if6 .left in
+    let first = c .before .before .before .before .before .before .before .before .hdp-of .ensures
+    ∙ ap (λ (q : ℕ). hdpOf (a .c .state) q)
+    (c .before .before .before .before .before .before .before .before .before .queue-of .ensures .0) in
+    let ready = yes-of (c .before .before .before .before .before .is-waiting .ensures
+    ∙ ap waits (c .before .before .before .before .before .before .rx-of .ensures))
+    (c .before .before .before .before .if5 .left) in
+    let free = sym (c .before .before .before .is-held .ensures
+    ∙ ap (λ (q : ℕ). heldBack (a .c) q)
+    (c .before .before .before .before .before .before .before .before .before .queue-of .ensures .0))
+    ∙ c .before .before .if6 .left in
     let went = c .before .set-rx .ensures ∙ ap (λ (p : ℕ). setRx 0 (Fetch (record { first = p; stored = 0; left = a .n })) (a .c)) first in
-    let law = frame-taken (a .n) (a .c) (c .before .before .before .before .before .before .before .before .before .before .before .before .if1 .left) (c .before .before .before .before .before .before .before .before .before .before .before .if2 .left) (c .before .before .before .before .before .before .before .before .before .before .if3 .left) (λ e. c .before .before .before .before .before .before .before .if4 .left (first ∙ e)) ready free in
+    let law = frame-taken (a .n) (a .c)
+    (c .before .before .before .before .before .before .before .before .before .before .before .before .if1 .left)
+    (c .before .before .before .before .before .before .before .before .before .before .before .if2 .left)
+    (c .before .before .before .before .before .before .before .before .before .before .if3 .left)
+    (λ e. c .before .before .before .before .before .before .before .if4 .left (first ∙ e)) ready free in
     c .answer-frame7 .ensures ∙ ap (λ (d : Controller). framed 0 d) went ∙ sym law
 
 pub take-frame-by-spec : {M : Type 1} → statement M

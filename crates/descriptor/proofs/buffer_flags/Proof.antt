@@ -18,7 +18,10 @@ has-sop-requires c κs = search needs
 
 returns-2 : tie.Need-returns-2
 unfolding flagsFault
-returns-2 c = simp (yes-of (c .before .before .before .has-owner .ensures) (c .before .before .if1 .left), sym (c .before .has-sop .ensures) ∙ c .if2 .taken)
+returns-2 c = simp (
+  yes-of (c .before .before .before .has-owner .ensures) (c .before .before .if1 .left),
+  sym (c .before .has-sop .ensures) ∙ c .if2 .taken,
+)
 
 has-eop-requires : tie.Need-has-eop-requires
 has-eop-requires c κs = search needs

@@ -14,10 +14,18 @@ has-td-requires : tie.Need-has-td-requires
 has-td-requires c κs = search needs
 
 returns-2 : tie.Need-returns-2
-returns-2 c = simp (sym (c .before .before .before .has-eoq .ensures) ∙ c .before .before .if1 .left, sym (c .before .has-td .ensures) ∙ c .if2 .taken)
+returns-2 c = simp (
+  sym (c .before .before .before .has-eoq .ensures) ∙ c .before .before .if1 .left,
+  sym (c .before .has-td .ensures)
+      ∙ c .if2 .taken,
+)
 
 returns-3 : tie.Need-returns-3
-returns-3 c = simp (sym (c .before .before .before .has-eoq .ensures) ∙ c .before .before .if1 .left, sym (c .before .has-td .ensures) ∙ c .if2 .left)
+returns-3 c = simp (
+  sym (c .before .before .before .has-eoq .ensures) ∙ c .before .before .if1 .left,
+  sym (c .before .has-td .ensures)
+      ∙ c .if2 .left,
+)
 
 pub end-flags-fault-spec : {M : Type 1} → statement M
 end-flags-fault-spec =

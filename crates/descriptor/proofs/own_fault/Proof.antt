@@ -22,7 +22,12 @@ returns-2 : tie.Need-returns-2
 unfolding ownFault
 returns-2 c =
     let length = simp (c .before .before .side-at .ensures) at (c .before .length-fault .ensures) in
-    simp (← c .before .before .before .before .flags-fault .ensures, eq-eqb _ _ (c .before .before .before .if1 .left), ← length, ne-eqb _ _ (c .if2 .taken))
+    simp (
+      ← c .before .before .before .before .flags-fault .ensures,
+      eq-eqb _ _ (c .before .before .before .if1 .left),
+      ← length,
+      ne-eqb _ _ (c .if2 .taken),
+    )
 
 sum-fault-requires : tie.Need-sum-fault-requires
 sum-fault-requires c κs = search needs

@@ -17,7 +17,10 @@ has-owner-requires c κs = search needs
 
 returns-2 : tie.Need-returns-2
 unfolding flagsFault
-returns-2 c = simp (yes-of (c .before .before .before .has-sop .ensures) (c .before .before .if1 .left), no-of (c .before .has-owner .ensures) (c .if2 .taken))
+returns-2 c = simp (
+  yes-of (c .before .before .before .has-sop .ensures) (c .before .before .if1 .left),
+  no-of (c .before .has-owner .ensures) (c .if2 .taken),
+)
 
 end-flags-fault-requires : tie.Need-end-flags-fault-requires
 end-flags-fault-requires c κs = search needs
@@ -25,7 +28,10 @@ end-flags-fault-requires c κs = search needs
 returns-3 : tie.Need-returns-3
 unfolding flagsFault
 returns-3 c =
-    simp (yes-of (c .before .before .before .before .has-sop .ensures) (c .before .before .before .if1 .left), yes-of (c .before .before .has-owner .ensures) (c .before .if2 .left))
+    simp (
+      yes-of (c .before .before .before .before .has-sop .ensures) (c .before .before .before .if1 .left),
+      yes-of (c .before .before .has-owner .ensures) (c .before .if2 .left),
+    )
     (c .end-flags-fault .ensures)
 
 pub start-flags-spec : {M : Type 1} → statement M

@@ -57,7 +57,8 @@ returns-2 c =
     ack-sound _ _ _ _ _ _ _ _ (s .pre .0) (s .pre .1) (t .if2 .taken) (t .before .quiet-cp .ensures (t .if2 .taken)) (c .judge-ack .ensures)
 
 write-released-requires : tie.Need-write-released-requires
-write-released-requires c κs = fit-size _ _ _ _ _ (start (c .before .before .before .before .before .before .before .before .before) .pre .0)
+write-released-requires c κs =
+    fit-size _ _ _ _ _ (start (c .before .before .before .before .before .before .before .before .before) .pre .0)
 
 same-length-3 : tie.Need-same-length-3
 same-length-3 c = search needs

@@ -17,13 +17,15 @@ refusal-requires : tie.Need-refusal-requires
 refusal-requires c κs = search needs
 
 returns : tie.Need-returns
-returns c = over-refused _ _ _ _ _ _ (c .before .before .before .check-used .ensures) _ _ _ (c .before .enum-told2 .given .1) (c .refusal .ensures)
+returns c = over-refused _ _ _ _ _ _ (c .before .before .before .check-used .ensures) _ _ _ (c .before .enum-told2 .given .1)
+    (c .refusal .ensures)
 
 take-chain-requires : tie.Need-take-chain-requires
 take-chain-requires c κs = search needs
 
 returns-2 : tie.Need-returns-2
-returns-2 c = over-taken _ _ _ _ _ _ (c .before .before .before .before .before .check-used .ensures) _ _ (c .before .before .before .enum-told .given .1) (c .take-chain .ensures)
+returns-2 c = over-taken _ _ _ _ _ _ (c .before .before .before .before .before .check-used .ensures) _ _
+    (c .before .before .before .enum-told .given .1) (c .take-chain .ensures)
 
 pub hand-over-spec : {M : Type 1} → statement M
 hand-over-spec = tie.close (tie.spec check-used-requires enum-told enum-told-2 refusal-requires returns take-chain-requires returns-2)

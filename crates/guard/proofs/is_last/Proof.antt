@@ -5,7 +5,7 @@ use Rattle.guard.proofs.JudgeLaws.{last-no, last-test}
 use Rattle.guard.proofs.is_last.Statement.{statement}
 use Rattle.guard.proofs.is_last.Tie as tie
 
-descriptor-word-requires : tie.Need-place-of-requires
+descriptor-word-requires : tie.Need-descriptor-word-requires
 descriptor-word-requires c κs = search needs
 
 returns : tie.Need-returns

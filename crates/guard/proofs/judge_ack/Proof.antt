@@ -14,13 +14,18 @@ ack-fault-requires : tie.Need-ack-fault-requires
 ack-fault-requires c κs = search needs
 
 returns : tie.Need-returns
-returns c = ruled-refused _ _ (c .before .ack-fault .ensures ∙ ap (λ (b : Bool). ackFault b (c .before .before .before .before .args .v)) (c .before .before .is-awaiting .ensures)) (c .if1 .taken)
+returns c = ruled-refused _ _
+    (c .before .ack-fault .ensures
+    ∙ ap (λ (b : Bool). ackFault b (c .before .before .before .before .args .v)) (c .before .before .is-awaiting .ensures)) (c .if1 .taken)
 
 write-ack-requires : tie.Need-write-ack-requires
 write-ack-requires c κs = search needs
 
 returns-2 : tie.Need-returns-2
-returns-2 c = ruled-wrote _ (c .before .before .before .ack-fault .ensures ∙ ap (λ (b : Bool). ackFault b (c .before .before .before .before .before .before .args .v)) (c .before .before .before .before .is-awaiting .ensures)) (c .before .before .if1 .left) (c .write-ack .ensures)
+returns-2 c = ruled-wrote _
+    (c .before .before .before .ack-fault .ensures
+    ∙ ap (λ (b : Bool). ackFault b (c .before .before .before .before .before .before .args .v))
+    (c .before .before .before .before .is-awaiting .ensures)) (c .before .before .if1 .left) (c .write-ack .ensures)
 
 pub judge-ack-spec : {M : Type 1} → statement M
 judge-ack-spec =

@@ -27,7 +27,8 @@ returns-2 : tie.Need-returns-2
 returns-2 c =
     let k = c .before .before .before .before .before in
     let t = k .before in
-    address-class _ _ _ _ _ _ _ (t .before .before .if1 .left) (t .before .is-descriptor .ensures) (no-of refl (t .if2 .taken)) (k .class-at .ensures) (c .judge-class .ensures)
+    address-class _ _ _ _ _ _ _ (t .before .before .if1 .left) (t .before .is-descriptor .ensures) (no-of refl (t .if2 .taken))
+    (k .class-at .ensures) (c .judge-class .ensures)
 
 sub-judge-word : tie.Need-sub-judge-word
 sub-judge-word c = omega (arith, inDescriptors-bounds _ (yes-of (c .before .is-descriptor .ensures) (c .if2 .left)))
@@ -37,8 +38,10 @@ cast-judge-word c = search needs
 
 judge-word-requires : tie.Need-judge-word-requires
 judge-word-requires c κs =
-    let e = c .before .before .before .before in
-    (e .before .before .before .before .before .pre, omega (arith, inDescriptors-bounds _ (yes-of (e .before .is-descriptor .ensures) (e .if2 .left))))
+    let e = c .before .before .before .before in (
+      e .before .before .before .before .before .pre,
+      omega (arith, inDescriptors-bounds _ (yes-of (e .before .is-descriptor .ensures) (e .if2 .left))),
+    )
 
 same-length-2 : tie.Need-same-length-2
 same-length-2 c = search needs
@@ -47,7 +50,8 @@ returns-3 : tie.Need-returns-3
 returns-3 c =
     let j = c .before .before in
     let e = j .before .before .before .before .before in
-    address-word _ _ _ _ _ _ _ (e .before .before .if1 .left) (e .before .is-descriptor .ensures) (yes-of refl (e .if2 .left)) refl (j .judge-word .ensures)
+    address-word _ _ _ _ _ _ _ (e .before .before .if1 .left) (e .before .is-descriptor .ensures) (yes-of refl (e .if2 .left)) refl
+    (j .judge-word .ensures)
 
 pub judge-address-spec : {M : Type 1} → statement M
 judge-address-spec =

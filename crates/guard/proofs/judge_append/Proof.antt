@@ -20,7 +20,8 @@ same-length : tie.Need-same-length
 same-length c = search needs
 
 returns : tie.Need-returns
-returns c = append-refused _ _ _ _ _ _ _ (c .before .before .before .check-used .ensures) _ _ _ (c .before .enum-told2 .given .1) (c .refusal .ensures)
+returns c = append-refused _ _ _ _ _ _ _ (c .before .before .before .check-used .ensures) _ _ _ (c .before .enum-told2 .given .1)
+    (c .refusal .ensures)
 
 take-chain-requires : tie.Need-take-chain-requires
 take-chain-requires c κs = search needs
@@ -32,7 +33,12 @@ same-length-2 : tie.Need-same-length-2
 same-length-2 c = search needs
 
 returns-2 : tie.Need-returns-2
-returns-2 c = append-taken _ _ _ _ _ _ _ (c .before .before .before .before .before .before .before .before .before .before .check-used .ensures) _ _ _ (c .before .before .before .before .before .before .before .before .enum-told .given .1) (c .before .before .before .before .take-chain .ensures) (c .before .before .put-at .ensures)
+returns-2 c = append-taken _ _ _ _ _ _ _
+    (c .before .before .before .before .before .before .before .before .before .before .check-used .ensures) _ _ _
+    (c .before .before .before .before .before .before .before .before .enum-told .given .1)
+    (c .before .before .before .before .take-chain .ensures) (c .before .before .put-at .ensures)
 
 pub judge-append-spec : {M : Type 1} → statement M
-judge-append-spec = tie.close (tie.spec check-used-requires enum-told enum-told-2 refusal-requires same-length returns take-chain-requires put-at-requires same-length-2 returns-2)
+judge-append-spec = tie.close
+    (tie.spec check-used-requires enum-told enum-told-2 refusal-requires same-length returns take-chain-requires put-at-requires
+    same-length-2 returns-2)

@@ -2,7 +2,8 @@
 use mathlib.Core.Path.{refl}
 use native.Mathlib.Omega.{arith}
 use Rattle.guard.proofs.GivesLaws.{class-head}
-use Rattle.guard.proofs.ClassLaws.{class-ack, class-teardown, class-reset, class-zero, class-passed, class-unoffered, class-low, class-mid, class-past}
+use Rattle.guard.proofs.ClassLaws.{class-ack, class-teardown, class-reset, class-zero, class-passed, class-unoffered, class-low}
+use Rattle.guard.proofs.ClassLaws.{class-mid, class-past}
 use borrow.Author.Needs.{needs}
 use Rattle.guard.proofs.judge_class.Statement.{statement}
 use Rattle.guard.proofs.judge_class.Tie as tie
@@ -55,7 +56,8 @@ returns-4 c =
 returns-5 : tie.Need-returns-5
 returns-5 c =
     let e = c .before .before in
-    class-zero _ _ _ _ _ _ _ (omega (arith, e .if5 .left, e .before .before .before .before .before .match .rest .1)) (c .before .if6 .taken) (c .judge-zero .ensures)
+    class-zero _ _ _ _ _ _ _ (omega (arith, e .if5 .left, e .before .before .before .before .before .match .rest .1))
+    (c .before .if6 .taken) (c .judge-zero .ensures)
 
 returns-6 : tie.Need-returns-6
 returns-6 c = class-passed _ _ _ _ _ _ _ (c .before .if6 .left) (c .if7 .taken)

@@ -34,7 +34,13 @@ cast-t19 : tie.Need-cast-t19
 cast-t19 c =
     let s = c .before .before .before .before .before .before in
     let a = s .before .before .before .before .before .before .before .before .args in
-    record { fits = omega (arith, tail-bound (word (a .m .now)) (a .k) queues (a .t .now) _ (sym (s .before .before .before .before .tail-at .ensures) ∙ s .before .before .x .given .1)) }
+    record {
+      fits = omega (
+        arith,
+        tail-bound (word (a .m .now)) (a .k) queues (a .t .now) _
+            (sym (s .before .before .before .before .tail-at .ensures) ∙ s .before .before .x .given .1),
+      );
+    }
 
 answer-to-requires : tie.Need-answer-to-requires
 answer-to-requires c κs = search needs
@@ -46,7 +52,8 @@ returns-2 : tie.Need-returns-2
 returns-2 c =
     let j = c .before .before .before in
     let s = j .before .before .before .before in
-    last-append _ _ _ _ _ _ _ _ (s .before .before .before .before .tail-at .ensures) (s .before .before .x .given .1) (s .side-of .ensures) refl (j .judge-append .ensures) (c .answer-to .ensures)
+    last-append _ _ _ _ _ _ _ _ (s .before .before .before .before .tail-at .ensures) (s .before .before .x .given .1)
+    (s .side-of .ensures) refl (j .judge-append .ensures) (c .answer-to .ensures)
 
 pub judge-last-spec : {M : Type 1} → statement M
 judge-last-spec =

@@ -13,7 +13,8 @@ hand-over-requires : tie.Need-hand-over-requires
 hand-over-requires c κs = search needs
 
 returns : tie.Need-returns
-returns c = start-refused _ _ _ _ _ _ _ (c .before .before .before .before .side-of .ensures) (c .before .hand-over .ensures) (c .if1 .taken)
+returns c = start-refused _ _ _ _ _ _ _ (c .before .before .before .before .side-of .ensures) (c .before .hand-over .ensures)
+    (c .if1 .taken)
 
 mul-t : tie.Need-mul-t
 mul-t c = search needs
@@ -34,7 +35,8 @@ cast-t19 : tie.Need-cast-t19
 cast-t19 c = search needs
 
 returns-2 : tie.Need-returns-2
-returns-2 c = start-taken _ _ (c .before .before .before .before .before .before .before .args .t .now) _ _ _ _ (c .before .before .before .before .side-of .ensures) (c .before .hand-over .ensures) (c .if1 .left) refl
+returns-2 c = start-taken _ _ (c .before .before .before .before .before .before .before .args .t .now) _ _ _ _
+    (c .before .before .before .before .side-of .ensures) (c .before .hand-over .ensures) (c .if1 .left) refl
 
 pub judge-start-spec : {M : Type 1} → statement M
 judge-start-spec =

@@ -14,7 +14,8 @@ begin-teardown-requires : tie.Need-begin-teardown-requires
 begin-teardown-requires c κs = search needs
 
 returns-2 : tie.Need-returns-2
-returns-2 c = ruled-wrote _ (c .before .before .before .teardown-number .ensures) (c .before .before .if1 .left) (c .begin-teardown .ensures)
+returns-2 c = ruled-wrote _ (c .before .before .before .teardown-number .ensures) (c .before .before .if1 .left)
+    (c .begin-teardown .ensures)
 
 pub judge-teardown-spec : {M : Type 1} → statement M
 judge-teardown-spec =

@@ -39,7 +39,8 @@ returns-3 : tie.Need-returns-3
 returns-3 c =
     let w = c .before .before in
     let e = w .before .before in
-    word-zero _ _ _ _ _ _ _ (yes-of (e .before .is-used .ensures) (e .if1 .left)) (sym (w .word-of .ensures) ∙ c .before .if2 .left) (c .if3 .taken)
+    word-zero _ _ _ _ _ _ _ (yes-of (e .before .is-used .ensures) (e .if1 .left)) (sym (w .word-of .ensures) ∙ c .before .if2 .left)
+    (c .if3 .taken)
 
 judge-last-requires : tie.Need-judge-last-requires
 judge-last-requires c κs = search needs
@@ -53,7 +54,8 @@ returns-4 c =
     let d = j .before .before .before .before in
     let w = d .before .before in
     let e = w .before .before in
-    word-last _ _ _ _ _ _ _ (yes-of (e .before .is-used .ensures) (e .if1 .left)) (sym (w .word-of .ensures) ∙ d .before .if2 .left) (d .if3 .left) (j .judge-last .ensures)
+    word-last _ _ _ _ _ _ _ (yes-of (e .before .is-used .ensures) (e .if1 .left)) (sym (w .word-of .ensures) ∙ d .before .if2 .left)
+    (d .if3 .left) (j .judge-last .ensures)
 
 pub judge-word-spec : {M : Type 1} → statement M
 judge-word-spec =

@@ -22,14 +22,15 @@ loop-holds c = (c .before .pre .1, omega arith, lastOf-is _ _)
 word-of-requires : tie.Need-word-of-requires Inv-loop μ-loop
 word-of-requires c κs = search needs
 
-descriptor-word-requires : tie.Need-place-of-requires Inv-loop μ-loop
+descriptor-word-requires : tie.Need-descriptor-word-requires Inv-loop μ-loop
 descriptor-word-requires c κs = search needs
 
 returns : tie.Need-returns Inv-loop μ-loop
 returns c =
     let w = c .before .before in
     let l = w .before .before in
-    sym (last-stop _ (l .loop .n) _ (w .word-of .ensures) (c .before .descriptor-word .ensures) (w .before .loop-test .taken) (c .if1 .taken)) ∙ l .loop .inv .2
+    sym (last-stop _ (l .loop .n) _ (w .word-of .ensures) (c .before .descriptor-word .ensures) (w .before .loop-test .taken)
+    (c .if1 .taken)) ∙ l .loop .inv .2
 
 sub-n : tie.Need-sub-n Inv-loop μ-loop
 sub-n c = omega arith
@@ -40,8 +41,12 @@ loop-less c = omega arith
 loop-again : tie.Need-loop-again Inv-loop μ-loop
 loop-again c =
     let w = c .before .before in
-    let l = w .before .before in
-    (omega arith, omega arith, last-go _ (l .loop .n) _ (w .word-of .ensures) (c .before .descriptor-word .ensures) (l .loop .n - 1) (omega arith) (omega arith) (omega arith) ∙ l .loop .inv .2)
+    let l = w .before .before in (
+      omega arith,
+      omega arith,
+      last-go _ (l .loop .n) _ (w .word-of .ensures) (c .before .descriptor-word .ensures) (l .loop .n - 1)
+          (omega arith) (omega arith) (omega arith) ∙ l .loop .inv .2,
+    )
 
 returns-2 : tie.Need-returns-2 Inv-loop μ-loop
 returns-2 c =

@@ -28,7 +28,10 @@ returns-3 : tie.Need-returns-3
 returns-3 c =
     let e = c .before in
     let d = e .before .before .before in
-    λ h. (cp-is _ _ _ (omega arith) (d .wrapping-sub-u32 .ensures) (c .cp-queue .ensures h), yes-of (e .before .is-quiet .ensures) (e .if2 .left))
+    λ h. (
+      cp-is _ _ _ (omega arith) (d .wrapping-sub-u32 .ensures) (c .cp-queue .ensures h),
+      yes-of (e .before .is-quiet .ensures) (e .if2 .left),
+    )
 
 pub quiet-cp-spec : {M : Type 1} → statement M
 quiet-cp-spec =

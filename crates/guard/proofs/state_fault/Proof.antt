@@ -16,10 +16,12 @@ is-sound-book-requires : tie.Need-is-sound-book-requires
 is-sound-book-requires c κs = parts-size _ _ (c .before .is-fit .ensures) (yes-of refl (c .if1 .left))
 
 returns-2 : tie.Need-returns-2
-returns-2 c = state-2 _ _ _ _ _ (c .before .before .before .is-fit .ensures) (yes-of refl (c .before .before .if1 .left)) (c .before .is-sound-book .ensures) (no-of refl (c .if2 .taken))
+returns-2 c = state-2 _ _ _ _ _ (c .before .before .before .is-fit .ensures) (yes-of refl (c .before .before .if1 .left))
+    (c .before .is-sound-book .ensures) (no-of refl (c .if2 .taken))
 
 returns-3 : tie.Need-returns-3
-returns-3 c = state-0 _ _ _ _ _ (c .before .before .before .is-fit .ensures) (yes-of refl (c .before .before .if1 .left)) (c .before .is-sound-book .ensures) (yes-of refl (c .if2 .left))
+returns-3 c = state-0 _ _ _ _ _ (c .before .before .before .is-fit .ensures) (yes-of refl (c .before .before .if1 .left))
+    (c .before .is-sound-book .ensures) (yes-of refl (c .if2 .left))
 
 pub state-fault-spec : {M : Type 1} → statement M
 state-fault-spec = tie.close (tie.spec is-fit-requires returns is-sound-book-requires returns-2 returns-3)

@@ -35,7 +35,8 @@ returns : tie.Need-returns Inv-loop μ-loop
 returns c =
     let l = c .before .before .before .before .loop in
     let a = c .before .before .before .before .before .before .args in
-    tail-here (word (a .m .now)) (a .k) (a .t .now) queues (l .q) (c .before .before .before .loop-test .taken) (sym (c .before .is-last .ensures) ∙ c .if1 .taken) (l .inv .1)
+    tail-here (word (a .m .now)) (a .k) (a .t .now) queues (l .q) (c .before .before .before .loop-test .taken)
+    (sym (c .before .is-last .ensures) ∙ c .if1 .taken) (l .inv .1)
 
 add-q : tie.Need-add-q Inv-loop μ-loop
 add-q c = search needs
@@ -46,8 +47,11 @@ loop-less c = search needs
 loop-again : tie.Need-loop-again Inv-loop μ-loop
 loop-again c =
     let l = c .before .before .before .before .loop in
-    let a = c .before .before .before .before .before .before .args in
-    (omega arith, tail-next (word (a .m .now)) (a .k) (a .t .now) queues (l .q) (c .before .before .before .loop-test .taken) (sym (c .before .is-last .ensures) ∙ c .if1 .left) (l .inv .1))
+    let a = c .before .before .before .before .before .before .args in (
+      omega arith,
+      tail-next (word (a .m .now)) (a .k) (a .t .now) queues (l .q) (c .before .before .before .loop-test .taken)
+          (sym (c .before .is-last .ensures) ∙ c .if1 .left) (l .inv .1),
+    )
 
 returns-2 : tie.Need-returns-2 Inv-loop μ-loop
 returns-2 c =

@@ -17,7 +17,13 @@ returns : tie.Need-returns
 returns c = kind-refused _ _ _ _ _ _ (c .before .kind-fault .ensures) (c .if1 .taken)
 
 cast-kinds : tie.Need-cast-kinds
-cast-kinds c = record { fits = omega (arith, leb-true (c .before .before .before .before .before .args .k) 4 (kind-tests _ _ _ _ _ (sym (c .before .kind-fault .ensures) ∙ c .if1 .left) .2)) }
+cast-kinds c = record {
+  fits = omega (
+    arith,
+    leb-true (c .before .before .before .before .before .args .k) 4
+        (kind-tests _ _ _ _ _ (sym (c .before .kind-fault .ensures) ∙ c .if1 .left) .2),
+  );
+}
 
 slice-write-kinds : tie.Need-slice-write-kinds
 slice-write-kinds c = ltb-true _ _ (kind-tests _ _ _ _ _ (sym (c .before .kind-fault .ensures) ∙ c .if1 .left) .0)

@@ -22,7 +22,8 @@ returns : tie.Need-returns
 returns c =
     let b = c .before .before .before in
     let r = b .before .before .before in
-    kind-released _ _ _ _ _ _ _ (sym (release-parts _ (r .release-book .ensures))) (kind-gives _ _ _ _ _ _ _ (b .change-block .ensures) (c .answer-to .ensures))
+    kind-released _ _ _ _ _ _ _ (sym (release-parts _ (r .release-book .ensures)))
+    (kind-gives _ _ _ _ _ _ _ (b .change-block .ensures) (c .answer-to .ensures))
 
 pub change-released-spec : {M : Type 1} → statement M
 change-released-spec =

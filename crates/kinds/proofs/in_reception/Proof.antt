@@ -29,7 +29,9 @@ is-touching-requires : tie.Need-is-touching-requires Inv-loop μ-loop
 is-touching-requires c κs = c .before .before .before .before .before .pre
 
 returns : tie.Need-returns Inv-loop μ-loop
-returns c = let a = c .before .before .before .before .before .before .before .args in let l = c .before .before .before .before .loop in sym (reception-found (word (a .m .now)) (a .b) (l .i) (a .lens .now) (c .before .before .before .loop-test .taken) (sym (c .before .is-touching .ensures) ∙ c .if1 .taken)) ∙ l .inv .1
+returns c = let a = c .before .before .before .before .before .before .before .args in let l = c .before .before .before .before .loop in
+    sym (reception-found (word (a .m .now)) (a .b) (l .i) (a .lens .now) (c .before .before .before .loop-test .taken)
+    (sym (c .before .is-touching .ensures) ∙ c .if1 .taken)) ∙ l .inv .1
 
 add-i : tie.Need-add-i Inv-loop μ-loop
 add-i c = search needs
@@ -38,10 +40,18 @@ loop-less : tie.Need-loop-less Inv-loop μ-loop
 loop-less c = search needs
 
 loop-again : tie.Need-loop-again Inv-loop μ-loop
-loop-again c = let a = c .before .before .before .before .before .before .before .args in let l = c .before .before .before .before .loop in (omega arith, reception-on (word (a .m .now)) (a .b) (l .i) (a .lens .now) (c .before .before .before .loop-test .taken) (sym (c .before .is-touching .ensures) ∙ c .if1 .left) ∙ l .inv .1)
+loop-again c = let a = c .before .before .before .before .before .before .before .args in
+    let l = c .before .before .before .before .loop in (
+      omega arith,
+      reception-on (word (a .m .now)) (a .b) (l .i) (a .lens .now) (c .before .before .before .loop-test .taken)
+          (sym (c .before .is-touching .ensures) ∙ c .if1 .left) ∙ l .inv .1,
+    )
 
 returns-2 : tie.Need-returns-2 Inv-loop μ-loop
-returns-2 c = let a = c .before .before .before .before .args in let l = c .before .loop in sym (received-end (word (a .m .now)) (a .b) (l .i) (l .i) (a .lens .now) (c .loop-test .left)) ∙ l .inv .1
+returns-2 c = let a = c .before .before .before .before .args in let l = c .before .loop in
+    sym (received-end (word (a .m .now)) (a .b) (l .i) (l .i) (a .lens .now) (c .loop-test .left)) ∙ l .inv .1
 
 pub in-reception-spec : {M : Type 1} → statement M
-in-reception-spec = tie.close (tie.spec Inv-loop μ-loop loop-holds mul-is-touching shared-slice-read-is-touching is-touching-requires returns add-i loop-less loop-again returns-2)
+in-reception-spec = tie.close
+    (tie.spec Inv-loop μ-loop loop-holds mul-is-touching shared-slice-read-is-touching is-touching-requires returns add-i loop-less
+    loop-again returns-2)

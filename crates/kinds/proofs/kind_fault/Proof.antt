@@ -19,19 +19,28 @@ shared-slice-read-if4 : tie.Need-shared-slice-read-if4
 shared-slice-read-if4 c = search needs
 
 returns-4 : tie.Need-returns-4
-returns-4 c = kind-20 _ _ _ _ _ (c .before .before .before .before .if1 .left) (c .before .before .before .if2 .left) (c .before .before .if3 .left) (c .if4 .taken)
+returns-4 c = kind-20 _ _ _ _ _ (c .before .before .before .before .if1 .left) (c .before .before .before .if2 .left)
+    (c .before .before .if3 .left) (c .if4 .taken)
 
 returns-5 : tie.Need-returns-5
-returns-5 c = kind-one _ _ _ _ _ (c .before .before .before .before .before .if1 .left) (c .before .before .before .before .if2 .left) (c .before .before .before .if3 .left) (c .before .if4 .left) (c .if5 .taken)
+returns-5 c = kind-one _ _ _ _ _ (c .before .before .before .before .before .if1 .left) (c .before .before .before .before .if2 .left)
+    (c .before .before .before .if3 .left) (c .before .if4 .left) (c .if5 .taken)
 
 in-reception-requires : tie.Need-in-reception-requires
 in-reception-requires c κs = search needs
 
 returns-6 : tie.Need-returns-6
-returns-6 c = kind-21 _ _ _ _ _ (c .before .before .before .before .before .before .before .before .if1 .left) (c .before .before .before .before .before .before .before .if2 .left) (c .before .before .before .before .before .before .if3 .left) (c .before .before .before .before .if4 .left) (c .before .before .before .if5 .left) (sym (c .before .in-reception .ensures) ∙ c .if6 .taken)
+returns-6 c = kind-21 _ _ _ _ _ (c .before .before .before .before .before .before .before .before .if1 .left)
+    (c .before .before .before .before .before .before .before .if2 .left) (c .before .before .before .before .before .before .if3 .left)
+    (c .before .before .before .before .if4 .left) (c .before .before .before .if5 .left)
+    (sym (c .before .in-reception .ensures) ∙ c .if6 .taken)
 
 returns-7 : tie.Need-returns-7
-returns-7 c = kind-free _ _ _ _ _ (c .before .before .before .before .before .before .before .before .if1 .left) (c .before .before .before .before .before .before .before .if2 .left) (c .before .before .before .before .before .before .if3 .left) (c .before .before .before .before .if4 .left) (c .before .before .before .if5 .left) (sym (c .before .in-reception .ensures) ∙ c .if6 .left)
+returns-7 c = kind-free _ _ _ _ _ (c .before .before .before .before .before .before .before .before .if1 .left)
+    (c .before .before .before .before .before .before .before .if2 .left) (c .before .before .before .before .before .before .if3 .left)
+    (c .before .before .before .before .if4 .left) (c .before .before .before .if5 .left)
+    (sym (c .before .in-reception .ensures) ∙ c .if6 .left)
 
 pub kind-fault-spec : {M : Type 1} → statement M
-kind-fault-spec = tie.close (tie.spec returns returns-2 returns-3 shared-slice-read-if4 returns-4 returns-5 in-reception-requires returns-6 returns-7)
+kind-fault-spec = tie.close
+    (tie.spec returns returns-2 returns-3 shared-slice-read-if4 returns-4 returns-5 in-reception-requires returns-6 returns-7)

@@ -17,7 +17,9 @@ same-length : tie.Need-same-length
 same-length c = search needs
 
 returns : tie.Need-returns
-returns c = kind-leaves _ _ _ _ _ _ _ (c .before .before .before .before .before .before .before .before .load-registers .ensures) _ _ _ _ _ _ _ _ _ (c .before .before .before .kind-change .ensures) (c .keep .ensures)
+returns c = kind-leaves _ _ _ _ _ _ _
+    (c .before .before .before .before .before .before .before .before .load-registers .ensures) _ _ _ _ _ _ _ _ _
+    (c .before .before .before .kind-change .ensures) (c .keep .ensures)
 
 pub apply-kind-spec : {M : Type 1} → statement M
 apply-kind-spec =

@@ -17,7 +17,9 @@ same-length : tie.Need-same-length
 same-length c = search needs
 
 returns : tie.Need-returns
-returns c = write-leaves _ _ _ _ _ _ _ (c .before .before .before .before .before .before .before .before .before .before .before .load-registers .ensures) _ _ _ _ _ _ _ _ _ _ (c .before .before .before .before .before .before .guest-write .ensures) (c .before .before .carry-out .ensures)
+returns c = write-leaves _ _ _ _ _ _ _
+    (c .before .before .before .before .before .before .before .before .before .before .before .load-registers .ensures) _ _ _ _ _ _ _ _ _
+    _ (c .before .before .before .before .before .before .guest-write .ensures) (c .before .before .carry-out .ensures)
 
 pub apply-write-spec : {M : Type 1} → statement M
 apply-write-spec =

@@ -23,7 +23,8 @@ same-length : tie.Need-same-length
 same-length c = search needs
 
 returns-2 : tie.Need-returns-2
-returns-2 c = carry-met _ _ _ _ _ _ (c .before .before .before .before .before .before .answer-number .ensures) (c .before .before .before .before .before .if1 .left) _ _ (c .before .before .before .unguarded-write .ensures) _ (c .meet .ensures)
+returns-2 c = carry-met _ _ _ _ _ _ (c .before .before .before .before .before .before .answer-number .ensures)
+    (c .before .before .before .before .before .if1 .left) _ _ (c .before .before .before .unguarded-write .ensures) _ (c .meet .ensures)
 
 pub carry-out-spec : {M : Type 1} → statement M
 carry-out-spec =

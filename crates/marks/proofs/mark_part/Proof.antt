@@ -31,7 +31,8 @@ returns c =
     let a = s .args in
     c .before .before .write-word .ensures
     ∙ ap (λ (w : ℕ). putWord (a .part .now) (4 * a .i) w)
-    (c .before .before .before .mark-word .ensures ∙ ap (λ (w : ℕ). changed (a .k) w) (c .before .before .before .before .before .read-word .ensures))
+    (c .before .before .before .mark-word .ensures
+    ∙ ap (λ (w : ℕ). changed (a .k) w) (c .before .before .before .before .before .read-word .ensures))
 
 pub mark-part-spec : {M : Type 1} → statement M
 mark-part-spec =

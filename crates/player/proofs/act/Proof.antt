@@ -32,19 +32,26 @@ play-requires : tie.Need-play-requires
 play-requires c κs = search needs
 
 go-on-requires : tie.Need-go-on-requires
-go-on-requires c κs = good-fits (c .before .before .before .before .before .before .before .before .before .before .before .before .before .before .before .before .before .before .before .args .w) (c .before .before .before .before .before .before .before .before .before .before .before .before .before .before .d .given .1) (c .before .before .before .before .before .before .before .before .before .before .before .before .before .before .before .before .before .before .before .pre .0)
+go-on-requires c κs =
+    good-fits (c .before .before .before .before .before .before .before .before .before .before .before .before .before .before .before
+    .before .before .before .before .args .w)
+    (c .before .before .before .before .before .before .before .before .before .before .before .before .before .before .d .given .1)
+    (c .before .before .before .before .before .before .before .before .before .before .before .before .before .before .before .before
+    .before .before .before .pre .0)
 
 same-length : tie.Need-same-length
 same-length c = search needs
 
 returns : tie.Need-returns
-returns c = acted-end _ _ _ _ _ _ _ _ _ _ _ _ _ _ (c .before .before .before .before .before .enum-told .given .1) (c .stop .ensures) (c .before .before .before .finish-sent .ensures)
+returns c = acted-end _ _ _ _ _ _ _ _ _ _ _ _ _ _ (c .before .before .before .before .before .enum-told .given .1) (c .stop .ensures)
+    (c .before .before .before .finish-sent .ensures)
 
 same-length-2 : tie.Need-same-length-2
 same-length-2 c = search needs
 
 returns-2 : tie.Need-returns-2
-returns-2 c = acted-bad _ _ _ _ _ _ _ _ _ _ _ _ _ _ (c .before .before .before .before .before .enum-told2 .given .1) (c .stop2 .ensures) (c .before .before .before .finish-bad .ensures)
+returns-2 c = acted-bad _ _ _ _ _ _ _ _ _ _ _ _ _ _ (c .before .before .before .before .before .enum-told2 .given .1) (c .stop2 .ensures)
+    (c .before .before .before .finish-bad .ensures)
 
 same-length-3 : tie.Need-same-length-3
 same-length-3 c = search needs
@@ -57,8 +64,12 @@ same-length-5 c = search needs
 
 returns-3 : tie.Need-returns-3
 returns-3 c =
-    let h = c .before .before .before .before .before .before .before .before .before .before .before .before .before .before .before .before .before .before .before .before .pre in
-    acted-good _ _ _ _ _ _ _ _ _ _ _ _ _ (c .before .before .before .before .before .before .before .before .before .before .before .before .before .before .before .d .given .1) _ _ _ _ _ _ _ _ (c .before .before .before .before .before .before .before .play .ensures .1) (c .go-on .ensures) (omega (arith, c .before .before .before .before .before .before .before .play .ensures .0, h .1, h .2)) (h .0)
+    let h = c .before .before .before .before .before .before .before .before .before .before .before .before .before .before .before
+    .before .before .before .before .before .pre in
+    acted-good _ _ _ _ _ _ _ _ _ _ _ _ _
+    (c .before .before .before .before .before .before .before .before .before .before .before .before .before .before
+    .before .d .given .1) _ _ _ _ _ _ _ _ (c .before .before .before .before .before .before .before .play .ensures .1)
+    (c .go-on .ensures) (omega (arith, c .before .before .before .before .before .before .before .play .ensures .0, h .1, h .2)) (h .0)
 
 pub act-spec : {M : Type 1} → statement M
 act-spec =

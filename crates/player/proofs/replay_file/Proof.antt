@@ -31,16 +31,20 @@ slice-aggregate-play-input-2 c = search needs
 
 play-input-requires : tie.Need-play-input-requires
 play-input-requires c κs =
-    let p = c .before .before .before .before .before .before .before .before .before .before .before .before .before .before .before .before .before .before .pre in
+    let p = c .before .before .before .before .before .before .before .before .before .before .before .before .before .before .before
+    .before .before .before .pre in
     let g = c .before .before .before .before .before .before .before .before .before .refill .ensures in (
       le-of (p .0) (c .before .before .before .before .before .before .before .before .before .refill .kept .1 .0),
       p .1,
-      sym (c .before .before .before .before .before .before .before .before .before .before .before .before .before .before .kinds-table .ensures),
+      sym (c .before .before .before .before .before .before .before .before .before .before .before .before .before
+          .before .kinds-table .ensures),
       g .inside,
       g .enough,
       record {
-        mem = c .before .before .before .before .before .before .before .before .before .before .before .before .before .before .before .descriptors .ensures;
-        state = c .before .before .before .before .before .before .before .before .before .before .before .before .before .no-state .ensures;
+        mem = c .before .before .before .before .before .before .before .before .before .before .before .before .before .before
+            .before .descriptors .ensures;
+        state = c .before .before .before .before .before .before .before .before .before .before .before .before
+            .before .no-state .ensures;
         used = c .before .before .before .before .before .before .before .before .before .before .before .before .no-words .ensures;
         lens = c .before .before .before .before .before .before .before .before .before .before .before .no-lengths .ensures;
       },

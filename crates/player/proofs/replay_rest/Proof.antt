@@ -29,20 +29,28 @@ loop-holds c =
 take-turn-requires : tie.Need-take-turn-requires Inv-loop μ-loop
 take-turn-requires c κs =
     let inv = c .before .before .before .before .before .before .before .before .loop .inv in
-    let p = c .before .before .before .before .before .before .before .before .before .before .before .before .before .pre in
-    (le-of (p .0) (inv .0 .0), le-of (p .1) (inv .0 .3), inv .1 .0, inv .1 .1 (c .before .before .before .before .before .before .before .loop-test .taken))
+    let p = c .before .before .before .before .before .before .before .before .before .before .before .before .before .pre in (
+      le-of (p .0) (inv .0 .0),
+      le-of (p .1) (inv .0 .3),
+      inv .1 .0,
+      inv .1 .1 (c .before .before .before .before .before .before .before .loop-test .taken),
+    )
 
 turns-left-requires : tie.Need-turns-left-requires Inv-loop μ-loop
-turns-left-requires c κs = c .before .before .before .before .before .before .before .before .before .before .before .before .before .before .before .before .loop-test .taken
+turns-left-requires c κs =
+    c .before .before .before .before .before .before .before .before .before .before .before .before .before .before .before
+    .before .loop-test .taken
 
 loop-less : tie.Need-loop-less Inv-loop μ-loop
 loop-less c = c .turns-left .ensures .1
 
 loop-again : tie.Need-loop-again Inv-loop μ-loop
 loop-again c =
-    let inv = c .before .before .before .before .before .before .before .before .before .before .before .before .before .before .before .before .before .before .loop .inv in
+    let inv = c .before .before .before .before .before .before .before .before .before .before .before .before .before .before .before
+    .before .before .before .loop .inv in
     let call = c .before .before .before .before .before .before .before .before .before .take-turn in
-    let some = c .before .before .before .before .before .before .before .before .before .before .before .before .before .before .before .before .before .loop-test .taken in
+    let some = c .before .before .before .before .before .before .before .before .before .before .before .before .before .before .before
+    .before .before .loop-test .taken in
     let kept = call .kept in (
       (
         kept .1 .1 .0 ∙ inv .0 .0,
@@ -53,7 +61,8 @@ loop-again c =
       (
         call .ensures .holds,
         λ h. still (call .result .going) _ _ (c .turns-left .ensures .0) h,
-        reached-more _ _ _ _ _ _ _ _ _ _ _ _ _ _ _ _ _ (inv .1 .2) _ (call .result) _ _ _ _ _ _ _ (inv .1 .1 some) some (c .turns-left .ensures .0) (call .ensures),
+        reached-more _ _ _ _ _ _ _ _ _ _ _ _ _ _ _ _ _ (inv .1 .2) _ (call .result) _ _ _ _ _ _ _ (inv .1 .1 some) some
+            (c .turns-left .ensures .0) (call .ensures),
       ),
     )
 

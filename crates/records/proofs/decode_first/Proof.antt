@@ -22,7 +22,10 @@ decode-ram-requires c κs = search needs
 
 returns-3 : tie.Need-returns-3
 unfolding decode
-returns-3 c = simp (le-leb 2 _ (c .before .before .before .if1 .left), yes-of (c .before .before .is-marked .ensures) (c .before .if2 .left)) (c .decode-ram .ensures)
+returns-3 c = simp (
+  le-leb 2 _ (c .before .before .before .if1 .left),
+  yes-of (c .before .before .is-marked .ensures) (c .before .if2 .left),
+) (c .decode-ram .ensures)
 
 pub decode-first-spec : {M : Type 1} → statement M
 decode-first-spec =

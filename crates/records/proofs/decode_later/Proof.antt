@@ -23,7 +23,10 @@ decode-kind-requires c κs = search needs
 
 returns-2 : tie.Need-returns-2
 unfolding decodeLater
-returns-2 c = simp (sym (c .before .before .before .before .is-marked .ensures) ∙ c .before .before .before .if1 .left, sym (c .before .before .is-marked2 .ensures) ∙ c .before .if2 .taken) (c .decode-kind .ensures)
+returns-2 c = simp (
+  sym (c .before .before .before .before .is-marked .ensures) ∙ c .before .before .before .if1 .left,
+  sym (c .before .before .is-marked2 .ensures) ∙ c .before .if2 .taken,
+) (c .decode-kind .ensures)
 
 is-marked-requires-3 : tie.Need-is-marked-requires-3
 is-marked-requires-3 c κs = search needs
@@ -33,7 +36,14 @@ decode-frame-requires c κs = search needs
 
 returns-3 : tie.Need-returns-3
 unfolding decodeLater
-returns-3 c = simp (sym (c .before .before .before .before .before .before .is-marked .ensures) ∙ c .before .before .before .before .before .if1 .left, sym (c .before .before .before .before .is-marked2 .ensures) ∙ c .before .before .before .if2 .left, sym (c .before .before .is-marked3 .ensures) ∙ c .before .if3 .taken) (c .decode-frame .ensures)
+returns-3 c = simp (
+  sym (c .before .before .before .before .before .before .is-marked .ensures)
+      ∙ c .before .before .before .before .before .if1 .left,
+  sym (c .before .before .before .before .is-marked2 .ensures)
+      ∙ c .before .before .before .if2 .left,
+  sym (c .before .before .is-marked3 .ensures) ∙ c .before .if3 .taken,
+)
+    (c .decode-frame .ensures)
 
 is-marked-requires-4 : tie.Need-is-marked-requires-4
 is-marked-requires-4 c κs = search needs
@@ -43,11 +53,24 @@ decode-steps-requires c κs = search needs
 
 returns-4 : tie.Need-returns-4
 unfolding decodeLater
-returns-4 c = simp (sym (c .before .before .before .before .before .before .before .before .is-marked .ensures) ∙ c .before .before .before .before .before .before .before .if1 .left, sym (c .before .before .before .before .before .before .is-marked2 .ensures) ∙ c .before .before .before .before .before .if2 .left, sym (c .before .before .before .before .is-marked3 .ensures) ∙ c .before .before .before .if3 .left, sym (c .before .before .is-marked4 .ensures) ∙ c .before .if4 .taken) (c .decode-steps .ensures)
+returns-4 c = simp (
+  sym (c .before .before .before .before .before .before .before .before .is-marked .ensures)
+      ∙ c .before .before .before .before .before .before .before .if1 .left,
+  sym (c .before .before .before .before .before .before .is-marked2 .ensures) ∙ c .before .before .before .before .before .if2 .left,
+  sym (c .before .before .before .before .is-marked3 .ensures) ∙ c .before .before .before .if3 .left,
+  sym (c .before .before .is-marked4 .ensures) ∙ c .before .if4 .taken,
+) (c .decode-steps .ensures)
 
 returns-5 : tie.Need-returns-5
 unfolding decodeLater
-returns-5 c = simp (sym (c .before .before .before .before .before .before .before .is-marked .ensures) ∙ c .before .before .before .before .before .before .if1 .left, sym (c .before .before .before .before .before .is-marked2 .ensures) ∙ c .before .before .before .before .if2 .left, sym (c .before .before .before .is-marked3 .ensures) ∙ c .before .before .if3 .left, sym (c .before .is-marked4 .ensures) ∙ c .if4 .left)
+returns-5 c = simp (
+  sym (c .before .before .before .before .before .before .before .is-marked .ensures)
+      ∙ c .before .before .before .before .before .before .if1 .left,
+  sym (c .before .before .before .before .before .is-marked2 .ensures)
+      ∙ c .before .before .before .before .if2 .left,
+  sym (c .before .before .before .is-marked3 .ensures) ∙ c .before .before .if3 .left,
+  sym (c .before .is-marked4 .ensures) ∙ c .if4 .left,
+)
 
 pub decode-later-spec : {M : Type 1} → statement M
 decode-later-spec =

@@ -41,10 +41,16 @@ kinds-fit-requires : tie.Need-kinds-fit-requires
 kinds-fit-requires c κs = search needs
 
 returns-4 : tie.Need-returns-4
-returns-4 c = ram-whole _ _ false (c .before .before .before .before .before .wider .ensures .0 ∙ c .before .before .before .before .before .before .number16 .ensures) (c .before .before .before .before .if2 .left) (c .before .before .before .if3 .left) (no-of (c .before .kinds-fit .ensures) (c .if4 .taken))
+returns-4 c = ram-whole _ _ false
+    (c .before .before .before .before .before .wider .ensures .0 ∙ c .before .before .before .before .before .before .number16 .ensures)
+    (c .before .before .before .before .if2 .left) (c .before .before .before .if3 .left)
+    (no-of (c .before .kinds-fit .ensures) (c .if4 .taken))
 
 returns-5 : tie.Need-returns-5
-returns-5 c = ram-whole _ _ true (c .before .before .before .before .before .wider .ensures .0 ∙ c .before .before .before .before .before .before .number16 .ensures) (c .before .before .before .before .if2 .left) (c .before .before .before .if3 .left) (yes-of (c .before .kinds-fit .ensures) (c .if4 .left))
+returns-5 c = ram-whole _ _ true
+    (c .before .before .before .before .before .wider .ensures .0 ∙ c .before .before .before .before .before .before .number16 .ensures)
+    (c .before .before .before .before .if2 .left) (c .before .before .before .if3 .left)
+    (yes-of (c .before .kinds-fit .ensures) (c .if4 .left))
 
 pub decode-ram-spec : {M : Type 1} → statement M
 decode-ram-spec =

@@ -25,7 +25,8 @@ decode-later-requires c κs = search needs
 
 returns-4 : tie.Need-returns-4
 unfolding decode
-returns-4 c = simp (c .before .before .before .if1 .left, ne-eqb _ _ (c .before .before .if2 .left), le-leb 2 _ (c .before .if3 .left)) (c .decode-later .ensures)
+returns-4 c = simp (c .before .before .before .if1 .left, ne-eqb _ _ (c .before .before .if2 .left), le-leb 2 _ (c .before .if3 .left))
+    (c .decode-later .ensures)
 
 pub decode-record-spec : {M : Type 1} → statement M
 decode-record-spec =

@@ -18,7 +18,11 @@ returns-2 : tie.Need-returns-2
 returns-2 c = simp (le-leb 4 _ (c .before .before .before .if1 .left), lt-leb _ engineMax (c .if2 .taken))
 
 returns-3 : tie.Need-returns-3
-returns-3 c = simp (le-leb 4 _ (c .before .before .before .before .if1 .left), le-leb _ engineMax (c .before .if2 .left), lt-leb 1 _ (c .if3 .taken))
+returns-3 c = simp (
+  le-leb 4 _ (c .before .before .before .before .if1 .left),
+  le-leb _ engineMax (c .before .if2 .left),
+  lt-leb 1 _ (c .if3 .taken),
+)
 
 engine-of-requires : tie.Need-engine-of-requires
 engine-of-requires c κs = search needs

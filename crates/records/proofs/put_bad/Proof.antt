@@ -17,7 +17,8 @@ put-decimal-requires : tie.Need-put-decimal-requires
 put-decimal-requires c κs = search needs
 
 put-byte-requires : tie.Need-put-byte-requires
-put-byte-requires c κs = omega (arith, length-decimal (c .before .before .before .before .before .before .before .before .before .before .before .args .offset))
+put-byte-requires c κs =
+    omega (arith, length-decimal (c .before .before .before .before .before .before .before .before .before .before .before .args .offset))
 
 same-length : tie.Need-same-length
 same-length c = search needs

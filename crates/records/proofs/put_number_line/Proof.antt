@@ -13,7 +13,8 @@ put-decimal-requires : tie.Need-put-decimal-requires
 put-decimal-requires c κs = search needs
 
 put-tail-requires : tie.Need-put-tail-requires
-put-tail-requires c κs = omega (arith, length-decimal (c .before .before .before .before .before .before .before .before .before .before .args .b))
+put-tail-requires c κs =
+    omega (arith, length-decimal (c .before .before .before .before .before .before .before .before .before .before .args .b))
 
 same-length : tie.Need-same-length
 same-length c = search needs

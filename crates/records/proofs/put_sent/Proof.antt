@@ -20,14 +20,26 @@ slice-aggregate-put-text-2 : tie.Need-slice-aggregate-put-text-2
 slice-aggregate-put-text-2 c = search needs
 
 put-text-requires-2 : tie.Need-put-text-requires-2
-put-text-requires-2 c κs = omega (arith, length-decimal (c .before .before .before .before .before .before .before .before .before .before .before .before .args .a))
+put-text-requires-2 c κs =
+    omega (
+      arith,
+      length-decimal
+          (c .before .before .before .before .before .before .before .before .before .before .before .before .args .a),
+    )
 
 put-decimal-requires-2 : tie.Need-put-decimal-requires-2
-put-decimal-requires-2 c κs = omega (arith, length-decimal (c .before .before .before .before .before .before .before .before .before .before .before .before .before .before .before .before .args .a))
+put-decimal-requires-2 c κs =
+    omega (
+      arith,
+      length-decimal
+          (c .before .before .before .before .before .before .before .before .before .before .before .before .before .before .before
+          .before .args .a),
+    )
 
 put-byte-requires : tie.Need-put-byte-requires
 put-byte-requires c κs =
-    let a = c .before .before .before .before .before .before .before .before .before .before .before .before .before .before .before .before .before .before .before .before .args in
+    let a = c .before .before .before .before .before .before .before .before .before .before .before .before .before .before .before
+    .before .before .before .before .before .args in
     omega (arith, length-decimal (a .a), length-decimal (a .b))
 
 same-length : tie.Need-same-length
@@ -36,8 +48,10 @@ same-length c = search needs
 returns : tie.Need-returns
 unfolding sentLine
 returns c =
-    prints-then (c .before .before .before .before .before .before .before .before .before .before .before .before .before .before .before .before .before .before .before .put-text .ensures)
-    (prints-then (c .before .before .before .before .before .before .before .before .before .before .before .before .before .before .before .put-decimal .ensures)
+    prints-then (c .before .before .before .before .before .before .before .before .before .before .before .before .before .before .before
+    .before .before .before .before .put-text .ensures)
+    (prints-then (c .before .before .before .before .before .before .before .before .before .before .before .before .before .before
+    .before .put-decimal .ensures)
     (prints-then (c .before .before .before .before .before .before .before .before .before .before .put-text2 .ensures)
     (prints-then (c .before .before .before .before .before .before .put-decimal2 .ensures) (c .before .before .put-byte .ensures))))
 

@@ -13,7 +13,8 @@ put-decimal-requires : tie.Need-put-decimal-requires
 put-decimal-requires c κs = search needs
 
 put-byte-requires-2 : tie.Need-put-byte-requires-2
-put-byte-requires-2 c κs = omega (arith, length-decimal (c .before .before .before .before .before .before .before .before .before .before .args .n))
+put-byte-requires-2 c κs =
+    omega (arith, length-decimal (c .before .before .before .before .before .before .before .before .before .before .args .n))
 
 same-length : tie.Need-same-length
 same-length c = search needs

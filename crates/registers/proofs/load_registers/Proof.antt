@@ -47,7 +47,8 @@ loop-less : tie.Need-loop-less Inv-loop μ-loop
 loop-less c = search needs
 
 loop-again : tie.Need-loop-again Inv-loop μ-loop
-loop-again c = loading-next (omega arith) (c .before .before .before .is-device .ensures) (c .choose .ensures) (c .before .before .before .before .before .loop .inv)
+loop-again c = loading-next (omega arith) (c .before .before .before .is-device .ensures) (c .choose .ensures)
+    (c .before .before .before .before .before .loop .inv)
 
 returns : tie.Need-returns Inv-loop μ-loop
 returns c = loading-last (omega arith) (c .before .loop .inv)

@@ -4,7 +4,8 @@ use Prim.Native.Nat.{ℕ, _<_}
 use native.Mathlib.Omega.{arith}
 use Rattle.layout.specs.Class.{resetClass}
 use Rattle.registers.specs.Rules.{teardownNumber, registerFault}
-use Rattle.registers.proofs.RegisterLaws.{byClass-head, byClass-low, byClass-ack, byClass-mid, byClass-teardown, byClass-reset, byClass-zero, byClass-passed, byClass-unoffered, byClass-unguarded}
+use Rattle.registers.proofs.RegisterLaws.{byClass-head, byClass-low, byClass-ack, byClass-mid, byClass-teardown, byClass-reset}
+use Rattle.registers.proofs.RegisterLaws.{byClass-zero, byClass-passed, byClass-unoffered, byClass-unguarded}
 use borrow.Author.Needs.{needs}
 use Rattle.registers.proofs.register_fault.Statement.{statement}
 use Rattle.registers.proofs.register_fault.Tie as tie

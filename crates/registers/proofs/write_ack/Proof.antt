@@ -24,7 +24,8 @@ set-mark-requires : tie.Need-set-mark-requires
 set-mark-requires c κs = search needs
 
 returns : tie.Need-returns
-returns c = c .set-mark .ensures ∙ sym (ackWritten-zero _ _ _ (sym (c .before .before .before .is-awaiting .ensures) ∙ c .before .before .if1 .taken))
+returns c = c .set-mark .ensures
+    ∙ sym (ackWritten-zero _ _ _ (sym (c .before .before .before .is-awaiting .ensures) ∙ c .before .before .if1 .taken))
 
 add-if2 : tie.Need-add-if2
 add-if2 c = search needs
@@ -36,7 +37,8 @@ element-copy-out-if2 : tie.Need-element-copy-out-if2
 element-copy-out-if2 c = search needs
 
 returns-2 : tie.Need-returns-2
-returns-2 c = sym (ackWritten-other _ _ _ (sym (c .before .before .before .is-awaiting .ensures) ∙ c .before .before .if1 .left) (c .if2 .taken))
+returns-2 c = sym (ackWritten-other _ _ _ (sym (c .before .before .before .is-awaiting .ensures) ∙ c .before .before .if1 .left)
+    (c .if2 .taken))
 
 add-t-2 : tie.Need-add-t-2
 add-t-2 c = search needs
@@ -48,7 +50,8 @@ element-write-t-2 : tie.Need-element-write-t-2
 element-write-t-2 c = search needs
 
 returns-3 : tie.Need-returns-3
-returns-3 c = sym (ackWritten-same _ _ _ (sym (c .before .before .before .is-awaiting .ensures) ∙ c .before .before .if1 .left) (c .if2 .left))
+returns-3 c = sym (ackWritten-same _ _ _ (sym (c .before .before .before .is-awaiting .ensures) ∙ c .before .before .if1 .left)
+    (c .if2 .left))
 
 pub write-ack-spec : {M : Type 1} → statement M
 write-ack-spec =

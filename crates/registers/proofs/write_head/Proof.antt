@@ -21,7 +21,8 @@ set-mark-requires : tie.Need-set-mark-requires
 set-mark-requires c κs = search needs
 
 returns : tie.Need-returns
-returns c = c .set-mark .ensures ∙ sym (headWritten-zero _ _ _ (sym (c .before .before .before .is-awaiting .ensures) ∙ c .before .before .if1 .taken))
+returns c = c .set-mark .ensures
+    ∙ sym (headWritten-zero _ _ _ (sym (c .before .before .before .is-awaiting .ensures) ∙ c .before .before .if1 .taken))
 
 add-t-2 : tie.Need-add-t-2
 add-t-2 c = search needs

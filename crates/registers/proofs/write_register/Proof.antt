@@ -5,7 +5,8 @@ use native.Mathlib.Omega.{arith}
 use Rattle.layout.specs.Class.{resetClass}
 use Rattle.registers.specs.Table.{setTearing}
 use Rattle.registers.specs.Rules.{written}
-use Rattle.registers.proofs.RegisterLaws.{byClass-head, byClass-low, byClass-ack, byClass-mid, byClass-teardown, byClass-reset, byClass-rest}
+use Rattle.registers.proofs.RegisterLaws.{byClass-head, byClass-low, byClass-ack, byClass-mid, byClass-teardown, byClass-reset}
+use Rattle.registers.proofs.RegisterLaws.{byClass-rest}
 use borrow.Author.Needs.{needs}
 use Rattle.registers.proofs.write_register.Statement.{statement}
 use Rattle.registers.proofs.write_register.Tie as tie
@@ -51,7 +52,8 @@ returns-3 c = sym (byClass-low _ _ _ _ _ _ _ _ _ (c .before .if1 .left) (c .if2 
 
 returns-4 : tie.Need-returns-4
 unfolding written
-returns-4 c = c .write-ack .ensures ∙ sym (byClass-ack _ _ _ _ _ _ _ _ _ (c .before .before .before .if2 .left) (c .before .before .if3 .taken))
+returns-4 c = c .write-ack .ensures
+    ∙ sym (byClass-ack _ _ _ _ _ _ _ _ _ (c .before .before .before .if2 .left) (c .before .before .if3 .taken))
 
 returns-5 : tie.Need-returns-5
 unfolding written

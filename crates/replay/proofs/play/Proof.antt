@@ -54,7 +54,13 @@ same-length-3 : tie.Need-same-length-3
 same-length-3 c = search needs
 
 returns-2 : tie.Need-returns-2
-returns-2 c = (omega (arith, c .before .before .show .ensures .0), record-plays _ _ (c .before .before .before .before .before .before .before .before .before .before .before .before .before .r .given .1) _ _ _ _ _ _ _ _ _ _ (tells-plays _ _ _ _ _ _ _ _ _ _ _ (c .before .before .before .before .before .before .happen-write .ensures) (c .before .before .show .ensures .1)))
+returns-2 c = (
+  omega (arith, c .before .before .show .ensures .0),
+  record-plays _ _ (c .before .before .before .before .before .before .before .before .before .before .before .before
+      .before .r .given .1) _ _ _ _ _ _ _ _ _ _
+      (tells-plays _ _ _ _ _ _ _ _ _ _ _ (c .before .before .before .before .before .before .happen-write .ensures)
+      (c .before .before .show .ensures .1)),
+)
 
 same-length-4 : tie.Need-same-length-4
 same-length-4 c = search needs
@@ -66,13 +72,24 @@ same-length-6 : tie.Need-same-length-6
 same-length-6 c = search needs
 
 returns-3 : tie.Need-returns-3
-returns-3 c = (omega (arith, c .before .before .show2 .ensures .0), record-plays _ _ (c .before .before .before .before .before .before .before .before .before .before .before .before .before .r2 .given .1) _ _ _ _ _ _ _ _ _ _ (tells-plays _ _ _ _ _ _ _ _ _ _ _ (c .before .before .before .before .before .before .happen-kind .ensures) (c .before .before .show2 .ensures .1)))
+returns-3 c = (
+  omega (arith, c .before .before .show2 .ensures .0),
+  record-plays _ _ (c .before .before .before .before .before .before .before .before .before .before .before .before
+      .before .r2 .given .1) _ _ _ _ _ _ _ _ _ _
+      (tells-plays _ _ _ _ _ _ _ _ _ _ _ (c .before .before .before .before .before .before .happen-kind .ensures)
+      (c .before .before .show2 .ensures .1)),
+)
 
 same-length-7 : tie.Need-same-length-7
 same-length-7 c = search needs
 
 returns-4 : tie.Need-returns-4
-returns-4 c = (omega (arith, c .before .before .show3 .ensures .0), record-plays _ _ (c .before .before .before .before .before .before .r3 .given .1) _ _ _ _ _ _ _ _ _ _ (tells-plays _ _ _ _ _ _ _ _ _ _ _ (c .before .before .before .before .happen-frame .ensures _ _ _ _ _) (c .before .before .show3 .ensures .1)))
+returns-4 c = (
+  omega (arith, c .before .before .show3 .ensures .0),
+  record-plays _ _ (c .before .before .before .before .before .before .r3 .given .1) _ _ _ _ _ _ _ _ _ _
+      (tells-plays _ _ _ _ _ _ _ _ _ _ _ (c .before .before .before .before .happen-frame .ensures _ _ _ _ _)
+      (c .before .before .show3 .ensures .1)),
+)
 
 same-length-8 : tie.Need-same-length-8
 same-length-8 c = search needs
@@ -81,7 +98,11 @@ same-length-9 : tie.Need-same-length-9
 same-length-9 c = search needs
 
 returns-5 : tie.Need-returns-5
-returns-5 c = (c .before .before .before .before .play-steps .ensures .0, record-plays _ _ (c .before .before .before .before .before .before .before .before .r4 .given .1) _ _ _ _ _ _ _ _ _ _ (steps-goes _ _ _ _ _ _ _ _ _ (c .before .before .before .before .play-steps .ensures .1) _ _ _ _))
+returns-5 c = (
+  c .before .before .before .before .play-steps .ensures .0,
+  record-plays _ _ (c .before .before .before .before .before .before .before .before .r4 .given .1) _ _ _ _ _ _ _ _ _ _
+      (steps-goes _ _ _ _ _ _ _ _ _ (c .before .before .before .before .play-steps .ensures .1) _ _ _ _),
+)
 
 pub play-spec : {M : Type 1} → statement M
 play-spec =

@@ -17,7 +17,11 @@ same-length-2 : tie.Need-same-length-2
 same-length-2 c = search needs
 
 returns : tie.Need-returns
-returns c = (c .before .before .show .ensures .0, λ k t u l. tells-plays _ _ _ _ _ _ _ _ _ _ _ (c .before .before .before .before .before .before .happen-step .ensures k t u l) (c .before .before .show .ensures .1))
+returns c = (
+  c .before .before .show .ensures .0,
+  λ k t u l. tells-plays _ _ _ _ _ _ _ _ _ _ _ (c .before .before .before .before .before .before .happen-step .ensures k t u l)
+      (c .before .before .show .ensures .1),
+)
 
 pub play-step-spec : {M : Type 1} → statement M
 play-step-spec =

@@ -46,7 +46,8 @@ loop-again c =
     let call = c .before .before .before .before .play-step in (
       (call .kept .1 .1 .0 ∙ inv .0 .0, call .kept .1 .1 .1 .0 ∙ inv .0 .1),
       (omega (arith, inv .1 .0), room-less _ _ _ _ _ more (inv .1 .1) (call .ensures .0)),
-      goes-more (s .args .e) (s .args .n - at .left) _ (made-more _ _ more (inv .1 .0)) (s .args .c) _ (at .ran) _ _ _ _ (call .result) _ _ (inv .2) (call .ensures .1),
+      goes-more (s .args .e) (s .args .n - at .left) _ (made-more _ _ more (inv .1 .0)) (s .args .c) _ (at .ran) _ _ _ _ (call .result) _ _
+          (inv .2) (call .ensures .1),
     )
 
 same-length : tie.Need-same-length Inv-loop μ-loop

@@ -13,7 +13,10 @@ same-length : tie.Need-same-length
 same-length c = search needs
 
 returns : tie.Need-returns
-returns c = (line-end (c .before .before .before .put-event .ensures) (length-lineOf _), record { ctl = refl; text = c .before .before .before .put-event .ensures })
+returns c = (
+  line-end (c .before .before .before .put-event .ensures) (length-lineOf _),
+  record { ctl = refl; text = c .before .before .before .put-event .ensures },
+)
 
 pub show-spec : {M : Type 1} → statement M
 show-spec = tie.close (tie.spec put-event-requires same-length returns)

@@ -26,7 +26,8 @@ returns c =
     let e = k .before .before .before .before .before .before in
     let a = e .before .before .args in
     let s = c .save-stepped .ensures in
-    stepped-of _ _ _ (a .engine) (a .channel) _ _ _ _ _ _ (e .read-engine .ensures) (k .read-record .ensures) (h .hosted .ensures) (s .0) (s .1) (s .2)
+    stepped-of _ _ _ (a .engine) (a .channel) _ _ _ _ _ _ (e .read-engine .ensures) (k .read-record .ensures) (h .hosted .ensures) (s .0)
+    (s .1) (s .2)
 
 pub gresomund-step-spec : {M : Type 1} → statement M
 gresomund-step-spec =

@@ -27,10 +27,12 @@ is-quiet-rx-requires : tie.Need-is-quiet-rx-requires
 is-quiet-rx-requires c κs = search needs
 
 returns : tie.Need-returns
-returns c = simp (sym (c .before .before .before .before .side-of .ensures) ∙ c .before .before .enum-told .given .1) (c .is-quiet-tx .ensures ∙ ap quietTx (c .before .tx-of .ensures))
+returns c = simp (sym (c .before .before .before .before .side-of .ensures) ∙ c .before .before .enum-told .given .1)
+    (c .is-quiet-tx .ensures ∙ ap quietTx (c .before .tx-of .ensures))
 
 returns-2 : tie.Need-returns-2
-returns-2 c = simp (sym (c .before .before .before .before .side-of .ensures) ∙ c .before .before .enum-told2 .given .1) (c .is-quiet-rx .ensures ∙ ap quietRx (c .before .rx-of .ensures))
+returns-2 c = simp (sym (c .before .before .before .before .side-of .ensures) ∙ c .before .before .enum-told2 .given .1)
+    (c .is-quiet-rx .ensures ∙ ap quietRx (c .before .rx-of .ensures))
 
 pub is-quiet-spec : {M : Type 1} → statement M
 is-quiet-spec =

@@ -1,4 +1,5 @@
--- `controller::steps::receive_step` meets its contract: the engine's step picks the case, and unfit it has written nothing. Assumes nothing.
+-- `controller::steps::receive_step` meets its contract: the engine's step picks the case, and unfit it has written nothing. Assumes
+-- nothing.
 use Prim.Native.Nat.{ℕ}
 use mathlib.Core.Path.{_∙_, sym, ap}
 use mathlib.Core.List.{List}
@@ -57,9 +58,15 @@ returns-2 c =
     let m = a .m .now in
     let q = c .before .before .before .before .before .before .before .before .before .before .before .queue-of .ensures .0 in
     let x = c .before .before .before .before .before .before .step-receive .last .0 in
-    let at = take-at m (c .before .before .before .before .before .before .before .before .before .rx-of .ensures) (c .before .before .before .before .before .before .before .before .hdp-of .ensures ∙ ap (λ (n : ℕ). hdpOf (k .state) n) q) (c .before .before .before .before .before .before .before .cp-of .ensures ∙ ap (λ (n : ℕ). cpOf (k .state) n) q) in
-    let went = sym (c .before .before .before .before .before .before .step-receive .ensures ∙ at) ∙ ap (λ (s : Takes). (s, x)) (c .before .before .s .given .1) in
-    c .after-taking .ensures x m ∙ sym (on-channel k m (receiveStep (a .ch) k m) (c .before .before .before .before .before .before .before .before .before .before .before .before .if1 .left) ∙ ap (λ (y : Takes × List ℕ). takeMoved (a .ch) y k m) went)
+    let at = take-at m (c .before .before .before .before .before .before .before .before .before .rx-of .ensures)
+    (c .before .before .before .before .before .before .before .before .hdp-of .ensures ∙ ap (λ (n : ℕ). hdpOf (k .state) n) q)
+    (c .before .before .before .before .before .before .before .cp-of .ensures ∙ ap (λ (n : ℕ). cpOf (k .state) n) q) in
+    let went = sym (c .before .before .before .before .before .before .step-receive .ensures ∙ at)
+    ∙ ap (λ (s : Takes). (s, x)) (c .before .before .s .given .1) in
+    c .after-taking .ensures x m
+    ∙ sym (on-channel k m (receiveStep (a .ch) k m)
+    (c .before .before .before .before .before .before .before .before .before .before .before .before .if1 .left)
+    ∙ ap (λ (y : Takes × List ℕ). takeMoved (a .ch) y k m) went)
 
 same-length-2 : tie.Need-same-length-2
 same-length-2 c = search needs
@@ -72,9 +79,15 @@ returns-3 c =
     let m = a .m .now in
     let q = c .before .before .before .before .before .before .before .before .before .before .queue-of .ensures .0 in
     let x = c .before .before .before .before .before .step-receive .last .0 in
-    let at = take-at m (c .before .before .before .before .before .before .before .before .rx-of .ensures) (c .before .before .before .before .before .before .before .hdp-of .ensures ∙ ap (λ (n : ℕ). hdpOf (k .state) n) q) (c .before .before .before .before .before .before .cp-of .ensures ∙ ap (λ (n : ℕ). cpOf (k .state) n) q) in
-    let unfit = sym (c .before .before .before .before .before .step-receive .ensures ∙ at) ∙ ap (λ (s : Takes). (s, x)) (c .before .enum-told .given .1) in
-    c .give-undefined .ensures x ∙ ap (λ (y : List ℕ). undefine k y) (take-unfit m x _ _ _ unfit) ∙ sym (on-channel k m (receiveStep (a .ch) k m) (c .before .before .before .before .before .before .before .before .before .before .before .if1 .left) ∙ ap (λ (y : Takes × List ℕ). takeMoved (a .ch) y k m) unfit)
+    let at = take-at m (c .before .before .before .before .before .before .before .before .rx-of .ensures)
+    (c .before .before .before .before .before .before .before .hdp-of .ensures ∙ ap (λ (n : ℕ). hdpOf (k .state) n) q)
+    (c .before .before .before .before .before .before .cp-of .ensures ∙ ap (λ (n : ℕ). cpOf (k .state) n) q) in
+    let unfit = sym (c .before .before .before .before .before .step-receive .ensures ∙ at)
+    ∙ ap (λ (s : Takes). (s, x)) (c .before .enum-told .given .1) in
+    c .give-undefined .ensures x ∙ ap (λ (y : List ℕ). undefine k y) (take-unfit m x _ _ _ unfit)
+    ∙ sym (on-channel k m (receiveStep (a .ch) k m)
+    (c .before .before .before .before .before .before .before .before .before .before .before .if1 .left)
+    ∙ ap (λ (y : Takes × List ℕ). takeMoved (a .ch) y k m) unfit)
 
 pub receive-step-spec : {M : Type 1} → statement M
 receive-step-spec =

@@ -27,7 +27,10 @@ give-requires-2 c κs = search needs
 
 returns-2 : tie.Need-returns-2
 unfolding resetStep
-returns-2 c = λ m. simp (yes-of (c .before .before .before .before .before .is-resetting .ensures) (c .before .before .before .before .if1 .left), no-of (c .before .before .are-all-quiet .ensures) (c .before .if2 .taken)) (c .give2 .ensures m)
+returns-2 c = λ m. simp (
+  yes-of (c .before .before .before .before .before .is-resetting .ensures) (c .before .before .before .before .if1 .left),
+  no-of (c .before .before .are-all-quiet .ensures) (c .before .if2 .taken),
+) (c .give2 .ensures m)
 
 array-write-t : tie.Need-array-write-t
 array-write-t c = search needs
@@ -49,8 +52,13 @@ unfolding resetStep
 returns-3 c =
     λ m.
     let a = c .before .before .before .before .before .before .before .before .before .args .c in
-    let idle = ap (λ (l : List Channel). answer 0 (setState (setResetBit 0 (unmarked (a .state))) (setChannels l a)) m) (c .before .idle-channels .ensures) in
-    simp (yes-of (c .before .before .before .before .before .before .is-resetting .ensures) (c .before .before .before .before .before .if1 .left), yes-of (c .before .before .before .are-all-quiet .ensures) (c .before .before .if2 .left)) (c .give3 .ensures m ∙ idle)
+    let idle = ap (λ (l : List Channel). answer 0 (setState (setResetBit 0 (unmarked (a .state))) (setChannels l a)) m)
+    (c .before .idle-channels .ensures) in
+    simp (
+      yes-of (c .before .before .before .before .before .before .is-resetting .ensures)
+          (c .before .before .before .before .before .if1 .left),
+      yes-of (c .before .before .before .are-all-quiet .ensures) (c .before .before .if2 .left),
+    ) (c .give3 .ensures m ∙ idle)
 
 pub reset-step-spec : {M : Type 1} → statement M
 reset-step-spec =

@@ -24,7 +24,8 @@ returns : tie.Need-returns
 unfolding tearMark
 returns c =
     let m = c .before .before .before .before .before .args .m .now in
-    simp (sym (c .before .before .before .hdp-of .ensures), eq-eqb _ _ (c .before .if1 .taken)) (c .give .ensures m ∙ ap (λ (d : Controller). answer 0 d m) (c .before .before .set-stage .ensures))
+    simp (sym (c .before .before .before .hdp-of .ensures), eq-eqb _ _ (c .before .if1 .taken))
+    (c .give .ensures m ∙ ap (λ (d : Controller). answer 0 d m) (c .before .before .set-stage .ensures))
 
 is-good-requires : tie.Need-is-good-requires
 is-good-requires c κs = search needs
@@ -34,7 +35,11 @@ give-undefined-requires c κs = search needs
 
 returns-2 : tie.Need-returns-2
 unfolding tearMark
-returns-2 c = simp (sym (c .before .before .before .before .before .hdp-of .ensures), ne-eqb _ _ (c .before .before .before .if1 .left), no-of (c .before .before .is-good .ensures) (c .before .if2 .taken)) (c .give-undefined .ensures _)
+returns-2 c = simp (
+  sym (c .before .before .before .before .before .hdp-of .ensures),
+  ne-eqb _ _ (c .before .before .before .if1 .left),
+  no-of (c .before .before .is-good .ensures) (c .before .if2 .taken),
+) (c .give-undefined .ensures _)
 
 word-number-requires : tie.Need-word-number-requires
 word-number-requires c κs = yes-of (c .before .before .is-good .ensures) (c .before .if2 .left)
@@ -53,9 +58,18 @@ unfolding tearMark
 returns-3 c =
     let a = c .before .before .before .before .before .before .before .before .before .before .before .before .args in
     let m = c .before .before .before .mark-td .last .0 in
-    let e = c .before .before .before .mark-td .ensures ∙ ap (λ (k : ℕ). marked tdMark k (a .m .now)) (c .before .before .before .before .word-number .ensures .0) in
-    simp (sym (c .before .before .before .before .before .before .before .before .before .before .hdp-of .ensures), ne-eqb _ _ (c .before .before .before .before .before .before .before .before .if1 .left), yes-of (c .before .before .before .before .before .before .before .is-good .ensures) (c .before .before .before .before .before .before .if2 .left))
-    (c .give2 .ensures m ∙ ap (λ (d : Controller). answer 0 d m) (c .before .before .before .before .before .before .before .before .before .set-stage .ensures) ∙ ap (λ (x : List ℕ). answer 0 (setStage (a .q) 2 (a .c)) x) e)
+    let e = c .before .before .before .mark-td .ensures
+    ∙ ap (λ (k : ℕ). marked tdMark k (a .m .now)) (c .before .before .before .before .word-number .ensures .0) in
+    simp (
+      sym (c .before .before .before .before .before .before .before .before .before .before .hdp-of .ensures),
+      ne-eqb _ _ (c .before .before .before .before .before .before .before .before .if1 .left),
+      yes-of (c .before .before .before .before .before .before .before .is-good .ensures)
+          (c .before .before .before .before .before .before .if2 .left),
+    )
+    (c .give2 .ensures m
+    ∙ ap (λ (d : Controller). answer 0 d m)
+    (c .before .before .before .before .before .before .before .before .before .set-stage .ensures)
+    ∙ ap (λ (x : List ℕ). answer 0 (setStage (a .q) 2 (a .c)) x) e)
 
 pub tear-mark-spec : {M : Type 1} → statement M
 tear-mark-spec =

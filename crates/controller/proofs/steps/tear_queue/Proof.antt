@@ -26,7 +26,10 @@ give-requires-2 c κs = search needs
 
 returns-2 : tie.Need-returns-2
 unfolding tearStep
-returns-2 c = simp (yes-of (c .before .before .before .before .is-tearing .ensures) (c .before .before .before .if1 .left), no-of (c .before .before .is-quiet .ensures) (c .before .if2 .taken)) (c .give2 .ensures _)
+returns-2 c = simp (
+  yes-of (c .before .before .before .before .is-tearing .ensures) (c .before .before .before .if1 .left),
+  no-of (c .before .before .is-quiet .ensures) (c .before .if2 .taken),
+) (c .give2 .ensures _)
 
 stage-of-requires : tie.Need-stage-of-requires
 stage-of-requires c κs = search needs
@@ -40,9 +43,13 @@ same-length c = search needs
 returns-3 : tie.Need-returns-3
 returns-3 c =
     let a = c .before .before .before .before .before .before .before .before .before .before .before .before .before .args in
-    let tearing = yes-of (c .before .before .before .before .before .before .before .before .before .is-tearing .ensures) (c .before .before .before .before .before .before .before .before .if1 .left) in
-    let still = yes-of (c .before .before .before .before .before .before .before .is-quiet .ensures) (c .before .before .before .before .before .before .if2 .left) in
-    c .before .before .tear-mark .ensures ∙ sym (tear-1 (a .q) (a .c) (a .m .now) tearing still (sym (c .before .before .before .before .before .stage-of .ensures) ∙ c .before .before .before .before .if3 .taken))
+    let tearing = yes-of (c .before .before .before .before .before .before .before .before .before .is-tearing .ensures)
+    (c .before .before .before .before .before .before .before .before .if1 .left) in
+    let still = yes-of (c .before .before .before .before .before .before .before .is-quiet .ensures)
+    (c .before .before .before .before .before .before .if2 .left) in
+    c .before .before .tear-mark .ensures
+    ∙ sym (tear-1 (a .q) (a .c) (a .m .now) tearing still
+    (sym (c .before .before .before .before .before .stage-of .ensures) ∙ c .before .before .before .before .if3 .taken))
 
 tear-clear-requires : tie.Need-tear-clear-requires
 tear-clear-requires c κs = search needs
@@ -54,9 +61,13 @@ returns-4 : tie.Need-returns-4
 returns-4 c =
     let a = c .before .before .before .before .before .before .before .before .before .before .before .before .args in
     let m = a .m .now in
-    let tearing = yes-of (c .before .before .before .before .before .before .before .before .is-tearing .ensures) (c .before .before .before .before .before .before .before .if1 .left) in
-    let still = yes-of (c .before .before .before .before .before .before .is-quiet .ensures) (c .before .before .before .before .before .if2 .left) in
-    c .give3 .ensures m ∙ ap (λ (d : Controller). answer 0 d m) (c .before .tear-clear .ensures) ∙ sym (tear-2 (a .q) (a .c) m tearing still (sym (c .before .before .before .before .stage-of .ensures) ∙ c .before .before .if4 .taken))
+    let tearing = yes-of (c .before .before .before .before .before .before .before .before .is-tearing .ensures)
+    (c .before .before .before .before .before .before .before .if1 .left) in
+    let still = yes-of (c .before .before .before .before .before .before .is-quiet .ensures)
+    (c .before .before .before .before .before .if2 .left) in
+    c .give3 .ensures m ∙ ap (λ (d : Controller). answer 0 d m) (c .before .tear-clear .ensures)
+    ∙ sym (tear-2 (a .q) (a .c) m tearing still
+    (sym (c .before .before .before .before .stage-of .ensures) ∙ c .before .before .if4 .taken))
 
 tear-report-requires : tie.Need-tear-report-requires
 tear-report-requires c κs = search needs
@@ -68,10 +79,14 @@ returns-5 : tie.Need-returns-5
 returns-5 c =
     let a = c .before .before .before .before .before .before .before .before .before .before .before .before .args in
     let m = a .m .now in
-    let tearing = yes-of (c .before .before .before .before .before .before .before .before .is-tearing .ensures) (c .before .before .before .before .before .before .before .if1 .left) in
-    let still = yes-of (c .before .before .before .before .before .before .is-quiet .ensures) (c .before .before .before .before .before .if2 .left) in
+    let tearing = yes-of (c .before .before .before .before .before .before .before .before .is-tearing .ensures)
+    (c .before .before .before .before .before .before .before .if1 .left) in
+    let still = yes-of (c .before .before .before .before .before .before .is-quiet .ensures)
+    (c .before .before .before .before .before .if2 .left) in
     let n = c .before .before .before .before .stage-of .ensures in
-    c .give4 .ensures m ∙ ap (λ (d : Controller). answer 0 d m) (c .before .tear-report .ensures) ∙ sym (tear-3 (a .q) (a .c) m tearing still (λ e. c .before .before .before .if3 .left (n ∙ e)) (λ e. c .before .before .if4 .left (n ∙ e)))
+    c .give4 .ensures m ∙ ap (λ (d : Controller). answer 0 d m) (c .before .tear-report .ensures)
+    ∙ sym (tear-3 (a .q) (a .c) m tearing still (λ e. c .before .before .before .if3 .left (n ∙ e))
+    (λ e. c .before .before .if4 .left (n ∙ e)))
 
 pub tear-queue-spec : {M : Type 1} → statement M
 tear-queue-spec =

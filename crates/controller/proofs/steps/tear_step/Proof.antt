@@ -29,7 +29,8 @@ returns-2 : tie.Need-returns-2
 returns-2 c =
     let a = c .before .before .before .before .before .before .before .args in
     let m = a .m .now in
-    c .before .before .tear-queue .ensures ∙ ap (λ (q : ℕ). tearStep q (a .c) m) (c .before .before .before .queue-of .ensures .0) ∙ sym (on-channel (a .c) m (tearStep (queueOf (a .side) (a .ch)) (a .c) m) (c .before .before .before .before .before .if1 .left))
+    c .before .before .tear-queue .ensures ∙ ap (λ (q : ℕ). tearStep q (a .c) m) (c .before .before .before .queue-of .ensures .0)
+    ∙ sym (on-channel (a .c) m (tearStep (queueOf (a .side) (a .ch)) (a .c) m) (c .before .before .before .before .before .if1 .left))
 
 pub tear-step-spec : {M : Type 1} → statement M
 tear-step-spec =

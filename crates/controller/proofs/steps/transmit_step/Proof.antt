@@ -1,4 +1,5 @@
--- `controller::steps::transmit_step` meets its contract: the engine's step picks the case, and unfit it has written nothing. Assumes nothing.
+-- `controller::steps::transmit_step` meets its contract: the engine's step picks the case, and unfit it has written nothing. Assumes
+-- nothing.
 use Prim.Native.Nat.{ℕ}
 use mathlib.Core.Path.{_∙_, sym, ap}
 use mathlib.Core.List.{List}
@@ -55,14 +56,23 @@ same-length c = search needs
 returns-2 : tie.Need-returns-2
 unfolding transmitStep
 returns-2 c =
-    let a = c .before .before .before .before .before .before .before .before .before .before .before .before .before .before .before .args in
+    let a = c .before .before .before .before .before .before .before .before .before .before .before .before .before .before
+    .before .args in
     let k = a .c in
     let m = a .m .now in
     let q = c .before .before .before .before .before .before .before .before .before .before .before .before .queue-of .ensures .0 in
     let x = c .before .before .before .before .before .before .step-transmit .last .0 in
-    let at = send-at m (c .before .before .before .before .before .before .before .is-held .ensures ∙ ap (λ (n : ℕ). heldBack k n) q) (c .before .before .before .before .before .before .before .before .before .before .tx-of .ensures) (c .before .before .before .before .before .before .before .before .before .hdp-of .ensures ∙ ap (λ (n : ℕ). hdpOf (k .state) n) q) (c .before .before .before .before .before .before .before .before .cp-of .ensures ∙ ap (λ (n : ℕ). cpOf (k .state) n) q) in
-    let went = sym (c .before .before .before .before .before .before .step-transmit .ensures ∙ at) ∙ ap (λ (s : Sends). (s, x)) (c .before .before .s .given .1) in
-    c .after-sending .ensures x m ∙ sym (on-channel k m (transmitStep (a .ch) k m) (c .before .before .before .before .before .before .before .before .before .before .before .before .before .if1 .left) ∙ ap (λ (y : Sends × List ℕ). sendMoved (a .ch) y k m) went)
+    let at = send-at m (c .before .before .before .before .before .before .before .is-held .ensures ∙ ap (λ (n : ℕ). heldBack k n) q)
+    (c .before .before .before .before .before .before .before .before .before .before .tx-of .ensures)
+    (c .before .before .before .before .before .before .before .before .before .hdp-of .ensures
+    ∙ ap (λ (n : ℕ). hdpOf (k .state) n) q)
+    (c .before .before .before .before .before .before .before .before .cp-of .ensures ∙ ap (λ (n : ℕ). cpOf (k .state) n) q) in
+    let went = sym (c .before .before .before .before .before .before .step-transmit .ensures ∙ at)
+    ∙ ap (λ (s : Sends). (s, x)) (c .before .before .s .given .1) in
+    c .after-sending .ensures x m
+    ∙ sym (on-channel k m (transmitStep (a .ch) k m)
+    (c .before .before .before .before .before .before .before .before .before .before .before .before .before .if1 .left)
+    ∙ ap (λ (y : Sends × List ℕ). sendMoved (a .ch) y k m) went)
 
 same-length-2 : tie.Need-same-length-2
 same-length-2 c = search needs
@@ -75,9 +85,16 @@ returns-3 c =
     let m = a .m .now in
     let q = c .before .before .before .before .before .before .before .before .before .before .before .queue-of .ensures .0 in
     let x = c .before .before .before .before .before .step-transmit .last .0 in
-    let at = send-at m (c .before .before .before .before .before .before .is-held .ensures ∙ ap (λ (n : ℕ). heldBack k n) q) (c .before .before .before .before .before .before .before .before .before .tx-of .ensures) (c .before .before .before .before .before .before .before .before .hdp-of .ensures ∙ ap (λ (n : ℕ). hdpOf (k .state) n) q) (c .before .before .before .before .before .before .before .cp-of .ensures ∙ ap (λ (n : ℕ). cpOf (k .state) n) q) in
-    let unfit = sym (c .before .before .before .before .before .step-transmit .ensures ∙ at) ∙ ap (λ (s : Sends). (s, x)) (c .before .enum-told .given .1) in
-    c .give-undefined .ensures x ∙ ap (λ (y : List ℕ). undefine k y) (send-unfit _ m x _ _ _ unfit) ∙ sym (on-channel k m (transmitStep (a .ch) k m) (c .before .before .before .before .before .before .before .before .before .before .before .before .if1 .left) ∙ ap (λ (y : Sends × List ℕ). sendMoved (a .ch) y k m) unfit)
+    let at = send-at m (c .before .before .before .before .before .before .is-held .ensures ∙ ap (λ (n : ℕ). heldBack k n) q)
+    (c .before .before .before .before .before .before .before .before .before .tx-of .ensures)
+    (c .before .before .before .before .before .before .before .before .hdp-of .ensures ∙ ap (λ (n : ℕ). hdpOf (k .state) n) q)
+    (c .before .before .before .before .before .before .before .cp-of .ensures ∙ ap (λ (n : ℕ). cpOf (k .state) n) q) in
+    let unfit = sym (c .before .before .before .before .before .step-transmit .ensures ∙ at)
+    ∙ ap (λ (s : Sends). (s, x)) (c .before .enum-told .given .1) in
+    c .give-undefined .ensures x ∙ ap (λ (y : List ℕ). undefine k y) (send-unfit _ m x _ _ _ unfit)
+    ∙ sym (on-channel k m (transmitStep (a .ch) k m)
+    (c .before .before .before .before .before .before .before .before .before .before .before .before .if1 .left)
+    ∙ ap (λ (y : Sends × List ℕ). sendMoved (a .ch) y k m) unfit)
 
 pub transmit-step-spec : {M : Type 1} → statement M
 transmit-step-spec =

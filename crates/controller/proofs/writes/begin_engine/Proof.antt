@@ -24,7 +24,11 @@ set-begun-requires : tie.Need-set-begun-requires
 set-begun-requires c κs = search needs
 
 returns-3 : tie.Need-returns-3
-returns-3 c = simp (lt-ltb _ _ (c .before .before .before .before .if1 .left), sym (c .before .before .is-awaiting .ensures) ∙ c .before .if2 .left) (c .set-begun .ensures)
+returns-3 c = simp (
+  lt-ltb _ _ (c .before .before .before .before .if1 .left),
+  sym (c .before .before .is-awaiting .ensures)
+      ∙ c .before .if2 .left,
+) (c .set-begun .ensures)
 
 pub begin-engine-spec : {M : Type 1} → statement M
 begin-engine-spec =

@@ -21,7 +21,11 @@ give-undefined-requires c κs = search needs
 
 returns-2 : tie.Need-returns-2
 unfolding registerWrite
-returns-2 c = λ m. simp (sym (c .before .before .before .register-fault .ensures), ne-eqb _ _ (c .before .before .if1 .left), ne-eqb _ _ (c .before .if2 .taken)) (c .give-undefined .ensures m)
+returns-2 c = λ m. simp (
+  sym (c .before .before .before .register-fault .ensures),
+  ne-eqb _ _ (c .before .before .if1 .left),
+  ne-eqb _ _ (c .before .if2 .taken),
+) (c .give-undefined .ensures m)
 
 write-register-requires : tie.Need-write-register-requires
 write-register-requires c κs = search needs
@@ -34,7 +38,12 @@ give-requires-2 c κs = search needs
 
 returns-3 : tie.Need-returns-3
 unfolding registerWrite
-returns-3 c = λ m. simp (sym (c .before .before .before .before .before .before .register-fault .ensures), c .before .before .before .before .if2 .left, sym (c .before .before .write-register .ensures), sym (c .before .begin-engine .ensures)) (c .give2 .ensures m)
+returns-3 c = λ m. simp (
+  sym (c .before .before .before .before .before .before .register-fault .ensures),
+  c .before .before .before .before .if2 .left,
+  sym (c .before .before .write-register .ensures),
+  sym (c .before .begin-engine .ensures),
+) (c .give2 .ensures m)
 
 pub register-write-spec : {M : Type 1} → statement M
 register-write-spec =

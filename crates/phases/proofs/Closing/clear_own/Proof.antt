@@ -26,7 +26,13 @@ same-length c = search needs
 
 returns-2 : tie.Need-returns-2
 unfolding clearOwn octetsOf
-returns-2 c = simp (yes-of (c .before .before .before .before .before .before .before .is-good .ensures) (c .before .before .before .before .before .before .if1 .left), c .packet-length .ensures, c .before .before .before .mark-owner .ensures, c .before .before .before .before .word-number .ensures .0)
+returns-2 c = simp (
+  yes-of (c .before .before .before .before .before .before .before .is-good .ensures)
+      (c .before .before .before .before .before .before .if1 .left),
+  c .packet-length .ensures,
+  c .before .before .before .mark-owner .ensures,
+  c .before .before .before .before .word-number .ensures .0,
+)
 
 pub clear-own-spec : {M : Type 1} → statement M
 clear-own-spec =

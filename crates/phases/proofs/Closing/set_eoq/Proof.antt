@@ -34,7 +34,14 @@ same-length c = search needs
 
 returns-3 : tie.Need-returns-3
 unfolding markEoq
-returns-3 c = simp (eq-eqb _ _ (c .before .before .before .before .before .before .before .before .if1 .left), yes-of (c .before .before .before .before .before .before .before .is-good .ensures) (c .before .before .before .before .before .before .if2 .left), c .to-phase2 .ensures, c .before .before .before .mark-eoq .ensures, c .before .before .before .before .word-number .ensures .0)
+returns-3 c = simp (
+  eq-eqb _ _ (c .before .before .before .before .before .before .before .before .if1 .left),
+  yes-of (c .before .before .before .before .before .before .before .is-good .ensures)
+      (c .before .before .before .before .before .before .if2 .left),
+  c .to-phase2 .ensures,
+  c .before .before .before .mark-eoq .ensures,
+  c .before .before .before .before .word-number .ensures .0,
+)
 
 pub set-eoq-spec : {M : Type 1} → statement M
 set-eoq-spec =

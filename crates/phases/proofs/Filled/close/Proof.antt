@@ -21,7 +21,10 @@ is-good-requires c κs = search needs
 
 returns-2 : tie.Need-returns-2
 unfolding close
-returns-2 c = simp (sym (c .before .before .before .is-too-long .ensures) ∙ c .before .before .if1 .left, no-of (c .before .is-good .ensures) (c .if2 .taken))
+returns-2 c = simp (
+  sym (c .before .before .before .is-too-long .ensures) ∙ c .before .before .if1 .left,
+  no-of (c .before .is-good .ensures) (c .if2 .taken),
+)
 
 word-number-requires : tie.Need-word-number-requires
 word-number-requires c κs = yes-of (c .before .is-good .ensures) (c .if2 .left)
@@ -42,8 +45,17 @@ returns-3 : tie.Need-returns-3
 unfolding close
 returns-3 c =
     let w = word (c .before .before .before .before .before .before .before .before .before .before .before .args .m .now) in
-    let next = c .before .before .before .before .word-of .ensures ∙ ap (λ (k : ℕ). w k) (c .before .before .before .before .before .word-number .ensures .0) in
-    simp (sym (c .before .before .before .before .before .before .before .before .before .is-too-long .ensures) ∙ c .before .before .before .before .before .before .before .before .if1 .left, yes-of (c .before .before .before .before .before .before .before .is-good .ensures) (c .before .before .before .before .before .before .if2 .left), sym (c .before .before .before .is-full .ensures), sym next, sym (c .before .before .goes-on .ensures) ∙ c .before .if3 .taken) (c .to-phase .ensures)
+    let next = c .before .before .before .before .word-of .ensures
+    ∙ ap (λ (k : ℕ). w k) (c .before .before .before .before .before .word-number .ensures .0) in
+    simp (
+      sym (c .before .before .before .before .before .before .before .before .before .is-too-long .ensures)
+          ∙ c .before .before .before .before .before .before .before .before .if1 .left,
+      yes-of (c .before .before .before .before .before .before .before .is-good .ensures)
+          (c .before .before .before .before .before .before .if2 .left),
+      sym (c .before .before .before .is-full .ensures),
+      sym next,
+      sym (c .before .before .goes-on .ensures) ∙ c .before .if3 .taken,
+    ) (c .to-phase .ensures)
 
 to-phase-requires-2 : tie.Need-to-phase-requires-2
 to-phase-requires-2 c κs = search needs
@@ -52,8 +64,17 @@ returns-4 : tie.Need-returns-4
 unfolding close
 returns-4 c =
     let w = word (c .before .before .before .before .before .before .before .before .before .before .before .args .m .now) in
-    let next = c .before .before .before .before .word-of .ensures ∙ ap (λ (k : ℕ). w k) (c .before .before .before .before .before .word-number .ensures .0) in
-    simp (sym (c .before .before .before .before .before .before .before .before .before .is-too-long .ensures) ∙ c .before .before .before .before .before .before .before .before .if1 .left, yes-of (c .before .before .before .before .before .before .before .is-good .ensures) (c .before .before .before .before .before .before .if2 .left), sym (c .before .before .before .is-full .ensures), sym next, sym (c .before .before .goes-on .ensures) ∙ c .before .if3 .left) (c .to-phase2 .ensures)
+    let next = c .before .before .before .before .word-of .ensures
+    ∙ ap (λ (k : ℕ). w k) (c .before .before .before .before .before .word-number .ensures .0) in
+    simp (
+      sym (c .before .before .before .before .before .before .before .before .before .is-too-long .ensures)
+          ∙ c .before .before .before .before .before .before .before .before .if1 .left,
+      yes-of (c .before .before .before .before .before .before .before .is-good .ensures)
+          (c .before .before .before .before .before .before .if2 .left),
+      sym (c .before .before .before .is-full .ensures),
+      sym next,
+      sym (c .before .before .goes-on .ensures) ∙ c .before .if3 .left,
+    ) (c .to-phase2 .ensures)
 
 pub close-spec : {M : Type 1} → statement M
 close-spec =

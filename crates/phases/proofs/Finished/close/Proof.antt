@@ -18,7 +18,10 @@ is-good-requires c κs = search needs
 
 returns-2 : tie.Need-returns-2
 unfolding close
-returns-2 c = simp (not-false (c .before .before .before .before .before .args .self .eop) (c .before .before .if1 .left), no-of (c .before .is-good .ensures) (c .if2 .taken))
+returns-2 c = simp (
+  not-false (c .before .before .before .before .before .args .self .eop) (c .before .before .if1 .left),
+  no-of (c .before .is-good .ensures) (c .if2 .taken),
+)
 
 word-number-requires : tie.Need-word-number-requires
 word-number-requires c κs = yes-of (c .before .is-good .ensures) (c .if2 .left)
@@ -31,7 +34,15 @@ to-phase-requires-2 c κs = search needs
 
 returns-3 : tie.Need-returns-3
 unfolding close
-returns-3 c = simp (not-false (c .before .before .before .before .before .before .before .before .args .self .eop) (c .before .before .before .before .before .if1 .left), yes-of (c .before .before .before .before .is-good .ensures) (c .before .before .before .if2 .left), c .to-phase2 .ensures, c .before .word-of .ensures, c .before .before .word-number .ensures .0)
+returns-3 c = simp (
+  not-false (c .before .before .before .before .before .before .before .before .args .self .eop)
+      (c .before .before .before .before .before .if1 .left),
+  yes-of (c .before .before .before .before .is-good .ensures)
+      (c .before .before .before .if2 .left),
+  c .to-phase2 .ensures,
+  c .before .word-of .ensures,
+  c .before .before .word-number .ensures .0,
+)
 
 pub close-spec : {M : Type 1} → statement M
 close-spec =

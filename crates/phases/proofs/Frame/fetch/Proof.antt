@@ -27,7 +27,10 @@ is-good-requires c κs = search needs
 
 returns-2 : tie.Need-returns-2
 unfolding fetch
-returns-2 c = simp (sym (c .before .before .before .is-too-long .ensures) ∙ c .before .before .if1 .left, no-of (c .before .is-good .ensures) (c .if2 .taken))
+returns-2 c = simp (
+  sym (c .before .before .before .is-too-long .ensures) ∙ c .before .before .if1 .left,
+  no-of (c .before .is-good .ensures) (c .if2 .taken),
+)
 
 word-number-requires : tie.Need-word-number-requires
 word-number-requires c κs = yes-of (c .before .is-good .ensures) (c .if2 .left)
@@ -43,8 +46,15 @@ unfolding fetch descAt
 returns-3 c =
     let w = word (c .before .before .before .before .before .before .before .before .before .args .m .now) in
     let d = c .before .before .descriptor-at .ensures ∙ ap (λ (k : ℕ). descAt w k) (c .before .before .before .word-number .ensures .0) in
-    let fault = c .before .fetch-fault .ensures ∙ ap (λ (d : Descriptor). fetchFault Buffer (d .next) (d .buffer) (d .word2) (d .word3)) d in
-    simp (sym (c .before .before .before .before .before .before .before .is-too-long .ensures) ∙ c .before .before .before .before .before .before .if1 .left, yes-of (c .before .before .before .before .before .is-good .ensures) (c .before .before .before .before .if2 .left), sym fault, ne-eqb _ _ (c .if3 .taken))
+    let fault = c .before .fetch-fault .ensures
+    ∙ ap (λ (d : Descriptor). fetchFault Buffer (d .next) (d .buffer) (d .word2) (d .word3)) d in
+    simp (
+      sym (c .before .before .before .before .before .before .before .is-too-long .ensures)
+          ∙ c .before .before .before .before .before .before .if1 .left,
+      yes-of (c .before .before .before .before .before .is-good .ensures) (c .before .before .before .before .if2 .left),
+      sym fault,
+      ne-eqb _ _ (c .if3 .taken),
+    )
 
 length-of-requires : tie.Need-length-of-requires
 length-of-requires c κs = search needs
@@ -56,11 +66,21 @@ returns-4 : tie.Need-returns-4
 unfolding fetch descAt
 returns-4 c =
     let w = word (c .before .before .before .before .before .before .before .before .before .before .before .args .m .now) in
-    let d = c .before .before .before .before .descriptor-at .ensures ∙ ap (λ (k : ℕ). descAt w k) (c .before .before .before .before .before .word-number .ensures .0) in
-    let fault = c .before .before .before .fetch-fault .ensures ∙ ap (λ (d : Descriptor). fetchFault Buffer (d .next) (d .buffer) (d .word2) (d .word3)) d in
+    let d = c .before .before .before .before .descriptor-at .ensures
+    ∙ ap (λ (k : ℕ). descAt w k) (c .before .before .before .before .before .word-number .ensures .0) in
+    let fault = c .before .before .before .fetch-fault .ensures
+    ∙ ap (λ (d : Descriptor). fetchFault Buffer (d .next) (d .buffer) (d .word2) (d .word3)) d in
     let at = ap (λ (d : Descriptor). d .buffer) d in
     let room = c .before .length-of .ensures .0 ∙ ap (λ (d : Descriptor). lengthOf Receive (d .word2)) d in
-    simp (sym (c .before .before .before .before .before .before .before .before .before .is-too-long .ensures) ∙ c .before .before .before .before .before .before .before .before .if1 .left, yes-of (c .before .before .before .before .before .before .before .is-good .ensures) (c .before .before .before .before .before .before .if2 .left), sym fault, eq-eqb _ _ (c .before .before .if3 .left)) (simp (sym at, sym room) (c .to-phase .ensures))
+    simp (
+      sym (c .before .before .before .before .before .before .before .before .before .is-too-long .ensures)
+          ∙ c .before .before .before .before .before .before .before .before .if1 .left,
+      yes-of (c .before .before .before .before .before .before .before .is-good .ensures)
+          (c .before .before .before .before .before .before .if2 .left),
+      sym fault,
+      eq-eqb _ _ (c .before .before .if3 .left),
+    )
+    (simp (sym at, sym room) (c .to-phase .ensures))
 
 pub fetch-spec : {M : Type 1} → statement M
 fetch-spec =

@@ -27,18 +27,34 @@ smaller-requires c κs = search needs
 add-rest : tie.Need-add-rest
 add-rest c =
     let self = c .before .before .before .before .before .args .self in
-    omega (arith, ltb-false addressEnd (self .at + self .left) (sym (c .before .before .before .passes-end .ensures) ∙ c .before .before .if2 .left))
+    omega (
+      arith,
+      ltb-false addressEnd (self .at + self .left)
+          (sym (c .before .before .before .passes-end .ensures) ∙ c .before .before .if2 .left),
+    )
 
 sub-rest : tie.Need-sub-rest
 sub-rest c = search needs
 
 returns-3 : tie.Need-returns-3
 unfolding readBurst
-returns-3 c = simp (ne-eqb _ _ (c .before .before .before .before .if1 .left), sym (c .before .before .before .passes-end .ensures) ∙ c .before .before .if2 .left, sym (c .before .smaller .ensures), lt-ltb _ _ (c .if3 .taken))
+returns-3 c = simp (
+  ne-eqb _ _ (c .before .before .before .before .if1 .left),
+  sym (c .before .before .before .passes-end .ensures)
+      ∙ c .before .before .if2 .left,
+  sym (c .before .smaller .ensures),
+  lt-ltb _ _ (c .if3 .taken),
+)
 
 returns-4 : tie.Need-returns-4
 unfolding readBurst
-returns-4 c = simp (ne-eqb _ _ (c .before .before .before .before .if1 .left), sym (c .before .before .before .passes-end .ensures) ∙ c .before .before .if2 .left, sym (c .before .smaller .ensures), le-ltb _ _ (c .if3 .left))
+returns-4 c = simp (
+  ne-eqb _ _ (c .before .before .before .before .if1 .left),
+  sym (c .before .before .before .passes-end .ensures)
+      ∙ c .before .before .if2 .left,
+  sym (c .before .smaller .ensures),
+  le-ltb _ _ (c .if3 .left),
+)
 
 pub read-burst-spec : {M : Type 1} → statement M
 read-burst-spec =

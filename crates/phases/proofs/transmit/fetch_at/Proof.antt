@@ -33,9 +33,15 @@ returns-2 : tie.Need-returns-2
 unfolding fetch descAt
 returns-2 c =
     let a = c .before .before .before .before .before .before .before .args in
-    let d = c .before .before .descriptor-at .ensures ∙ ap (λ (k : ℕ). descAt (word (a .m .now)) k) (c .before .before .before .word-number .ensures .0) in
-    let fault = c .before .fetch-fault .ensures ∙ ap (λ (d : Descriptor). fetchFault (a .pl) (d .next) (d .buffer) (d .word2) (d .word3)) d in
-    simp (yes-of (c .before .before .before .before .before .is-good .ensures) (c .before .before .before .before .if1 .left), sym fault, ne-eqb _ _ (c .if2 .taken))
+    let d = c .before .before .descriptor-at .ensures
+    ∙ ap (λ (k : ℕ). descAt (word (a .m .now)) k) (c .before .before .before .word-number .ensures .0) in
+    let fault = c .before .fetch-fault .ensures
+    ∙ ap (λ (d : Descriptor). fetchFault (a .pl) (d .next) (d .buffer) (d .word2) (d .word3)) d in
+    simp (
+      yes-of (c .before .before .before .before .before .is-good .ensures) (c .before .before .before .before .if1 .left),
+      sym fault,
+      ne-eqb _ _ (c .if2 .taken),
+    )
 
 latch-requires : tie.Need-latch-requires
 latch-requires c κs = sym (c .before .fetch-fault .ensures) ∙ c .if2 .left
@@ -47,10 +53,19 @@ returns-3 : tie.Need-returns-3
 unfolding fetch descAt
 returns-3 c =
     let a = c .before .before .before .before .before .before .before .before .before .args in
-    let d = c .before .before .before .before .descriptor-at .ensures ∙ ap (λ (k : ℕ). descAt (word (a .m .now)) k) (c .before .before .before .before .before .word-number .ensures .0) in
-    let fault = c .before .before .before .fetch-fault .ensures ∙ ap (λ (d : Descriptor). fetchFault (a .pl) (d .next) (d .buffer) (d .word2) (d .word3)) d in
-    let reading = c .before .latch .ensures ∙ ap (λ (d : Descriptor). latch (a .pl) (a .sop) (d .next) (d .buffer) (d .word2) (d .word3)) d in
-    simp (yes-of (c .before .before .before .before .before .before .before .is-good .ensures) (c .before .before .before .before .before .before .if1 .left), sym fault, eq-eqb _ _ (c .before .before .if2 .left)) (c .to-phase .ensures ∙ ap (λ (s : Sending). toPhase s (a .hdp) (a .cp)) reading)
+    let d = c .before .before .before .before .descriptor-at .ensures
+    ∙ ap (λ (k : ℕ). descAt (word (a .m .now)) k) (c .before .before .before .before .before .word-number .ensures .0) in
+    let fault = c .before .before .before .fetch-fault .ensures
+    ∙ ap (λ (d : Descriptor). fetchFault (a .pl) (d .next) (d .buffer) (d .word2) (d .word3)) d in
+    let reading = c .before .latch .ensures
+    ∙ ap (λ (d : Descriptor). latch (a .pl) (a .sop) (d .next) (d .buffer) (d .word2) (d .word3)) d in
+    simp (
+      yes-of (c .before .before .before .before .before .before .before .is-good .ensures)
+          (c .before .before .before .before .before .before .if1 .left),
+      sym fault,
+      eq-eqb _ _ (c .before .before .if2 .left),
+    )
+    (c .to-phase .ensures ∙ ap (λ (s : Sending). toPhase s (a .hdp) (a .cp)) reading)
 
 pub fetch-at-spec : {M : Type 1} → statement M
 fetch-at-spec =

@@ -28,7 +28,13 @@ has-eop-requires : tie.Need-has-eop-requires
 has-eop-requires c κs = search needs
 
 returns : tie.Need-returns
-returns c = simp (c .has-eop .ensures, c .before .length-of .ensures .0, c .before .before .sum-at .ensures, c .before .before .before .sop-at .ensures, c .before .before .before .before .first-byte .ensures .0)
+returns c = simp (
+  c .has-eop .ensures,
+  c .before .length-of .ensures .0,
+  c .before .before .sum-at .ensures,
+  c .before .before .before .sop-at .ensures,
+  c .before .before .before .before .first-byte .ensures .0,
+)
 
 pub latch-spec : {M : Type 1} → statement M
 latch-spec =
