@@ -3,8 +3,8 @@
 --     MayCome ended more         more may still be read: nothing, once the input has ended
 --     Enough w ended             the window decides what stands next: it has the bytes of any record, or the input has ended
 --     toCome going o s bs        what is still to be printed: nothing, once the run is over
---     Lines ..                   `replay` of all bytes read, and of any that may come, is what was handed to the write, then what is gathered,
---                                then what is still to be printed
+--     Lines ..                   `replay` of all bytes read, and of any that may come, is what was handed to the write, then what is
+--                                gathered, then what is still to be printed
 --     Stands read wrote r ..     so stands the run r with its tables and buffers; the offset is that of the window in all bytes read
 --     Holds r x y                the window lies in the buffer x, and the lines gathered in y
 --     offsetEnd                  one past the largest offset: the promises are for inputs of fewer bytes
@@ -43,7 +43,8 @@ Lines read wrote gathered going o s window ended =
 
 pub record Stands (read wrote : List ℕ) (r : Run) (m k t u l x y : List ℕ) : Type 0 where
   pub place : r .offset + length (windowOf (r .window) x) ≡ length read
-  pub lines : Lines read wrote (take (r .at) y) (r .going) (r .offset) (machineAt (r .ctl) m k t u l) (windowOf (r .window) x) (r .window .ended)
+  pub lines : Lines read wrote (take (r .at) y) (r .going) (r .offset) (machineAt (r .ctl) m k t u l) (windowOf (r .window) x)
+      (r .window .ended)
 
 pub record Holds (r : Run) (x y : List ℕ) : Type 0 where
   pub inside : Inside (r .window) x

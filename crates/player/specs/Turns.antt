@@ -90,11 +90,13 @@ pub record Fresh (m t u l : List ℕ) : Type 0 where
   pub lens : l ≡ replicate descWords 0
 
 -- d was decoded from the window w of any buffer that decides it; no byte is read, and none is handed to the write before the run is over
-pub record Acted (d : Decoded) (w : Window) (c : Controller) (at o : ℕ) (m k t u l y : List ℕ) (r : Run) (m′ k′ t′ u′ l′ y′ : List ℕ) : Type 0 where
+pub record Acted (d : Decoded) (w : Window) (c : Controller) (at o : ℕ) (m k t u l y : List ℕ) (r : Run)
+    (m′ k′ t′ u′ l′ y′ : List ℕ) : Type 0 where
   pub inside : (x : List ℕ) → Inside w x → Inside (r .window) x
   pub ended : r .window .ended ≡ w .ended
   pub room : r .at ≤ length y′
-  pub stands : (read wrote x : List ℕ) → length read < offsetEnd → Inside w x → d ≡ decode false (windowOf w x) → Enough (windowOf w x) (w .ended)
+  pub stands : (read wrote x : List ℕ) → length read < offsetEnd → Inside w x → d ≡ decode false (windowOf w x)
+      → Enough (windowOf w x) (w .ended)
       → Stands read wrote (runAt c at w o true) m k t u l x y → Stands read wrote r m′ k′ t′ u′ l′ x y′ × (r .going ≡ true → o < r .offset)
 
 -- what was read is what the window was filled with; what was handed to the write is what was gathered, where it was much
@@ -118,7 +120,8 @@ pub record Printed (first : List ℕ) (r : Last) (y : List ℕ) : Type 0 where
   pub got : List ℕ
   pub put : List ℕ
   pub room : r .end ≤ length y
-  pub whole : length (first ++ got) < offsetEnd → (more : List ℕ) → MayCome (r .ended) more → replay ((first ++ got) ++ more) ≡ put ++ take (r .end) y
+  pub whole : length (first ++ got) < offsetEnd → (more : List ℕ) → MayCome (r .ended) more
+      → replay ((first ++ got) ++ more) ≡ put ++ take (r .end) y
 
 -- the first read put `first` there
 pub record Replayed (r : Last) (y : List ℕ) : Type 0 where

@@ -20,7 +20,8 @@ pub record Same (r r′ : Played) (m m′ k k′ t t′ u u′ l l′ y y′ : L
   pub lens : l ≡ l′
   pub text : y ≡ y′
 
-pub plays-unique : {p : List Event × Machine} {r r′ : Played} {m m′ k k′ t t′ u u′ l l′ x y y′ : List ℕ} {at : ℕ} → Plays p r m k t u l x at y
+pub plays-unique : {p : List Event × Machine} {r r′ : Played} {m m′ k k′ t t′ u u′ l l′ x y y′ : List ℕ} {at : ℕ}
+    → Plays p r m k t u l x at y
     → Plays p r′ m′ k′ t′ u′ l′ x at y′ → Same r r′ m m′ k k′ t t′ u u′ l l′ y y′
 plays-unique a b =
     let same = prints-unique (a .text) (b .text) in

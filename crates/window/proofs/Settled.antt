@@ -11,7 +11,8 @@ use Rattle.layout.specs.Choice.{pick}
 use Rattle.window.specs.declared.Window.{Window}
 use Rattle.window.specs.Window.{windowOf, lacks, Refilled, Passed}
 
-pub refilled-unique : {wanted : ℕ} {w : Window} {x : List ℕ} {r s : Window} {y z : List ℕ} (a : Refilled wanted w x r y) (b : Refilled wanted w x s z)
+pub refilled-unique : {wanted : ℕ} {w : Window} {x : List ℕ} {r s : Window} {y z : List ℕ} (a : Refilled wanted w x r y)
+    (b : Refilled wanted w x s z)
     → a .got ≡ b .got → (windowOf r y ≡ windowOf s z) × (r .ended ≡ s .ended)
 refilled-unique {wanted} {w} {x} a b e = (
   a .bytes ∙ ap (λ (g : List ℕ). windowOf w x ++ g) e ∙ sym (b .bytes),
@@ -19,4 +20,9 @@ refilled-unique {wanted} {w} {x} a b e = (
 )
 
 pub passed-unique : {w : Window} {n : ℕ} {r s : Window} → Passed w n r → Passed w n s → r ≡ s
-passed-unique a b = λ i. record { from = (a .from ∙ sym (b .from)) i; len = (a .len ∙ sym (b .len)) i; ended = (a .ended ∙ sym (b .ended)) i }
+passed-unique a b = λ i. record {
+  from = (a .from ∙ sym (b .from)) i;
+  len = (a .len ∙ sym (b .len)) i;
+  ended = (a .ended ∙ sym
+      (b .ended)) i;
+}

@@ -14,7 +14,8 @@ use native.Mathlib.Nat.{zero-add}
 use native.Mathlib.Numerals.{add-one}
 use native.Mathlib.Omega.{arith}
 use lib.ListN.{length, getD, set, take, drop, length-drop, length-append, length-take}
-use lib.Seq.{paste, take-paste, paste-suc, length-paste, take-nil, drop-nil, length-take-le, length-slice, drop-drop, getD-drop, take-append-add, take-append-le, getD-append-add}
+use lib.Seq.{paste, take-paste, paste-suc, length-paste, take-nil, drop-nil, length-take-le}
+use lib.Seq.{length-slice, drop-drop, getD-drop, take-append-add, take-append-le, getD-append-add}
 use lib.Dec.{ltb}
 use borrow.Author.Tests.{ltb-true, ltb-false, lt-ltb, le-ltb}
 use Rattle.layout.specs.Choice.{pick, both}
@@ -160,7 +161,14 @@ module _ (wanted : ℕ) (w : Window) (x x1 ys : List ℕ) (got : ℕ) (h : Insid
   enough-at : (t : Bool) → ltb got (length x1 - leftOver) ≡ t → (wanted ≤ length (windowOf (filled t) readInto)) ⊎ (t ≡ true)
   enough-at true f = inr refl
   enough-at false f =
-      inl (omega (arith, length-window (filled false) readInto (inside-at false), ltb-false got (length x1 - leftOver) f, length-moved, g))
+      inl (omega (
+        arith,
+        length-window (filled false) readInto (inside-at false),
+        ltb-false got
+            (length x1 - leftOver) f,
+        length-moved,
+        g,
+      ))
 
   ends-is : w .len - w .from < wanted → w .ended ≡ false
       → ltb got (length x1 - leftOver) ≡ pick (lacks wanted w) (ltb (leftOver + length (take got ys)) (length x)) (w .ended)
@@ -172,7 +180,8 @@ module _ (wanted : ℕ) (w : Window) (x x1 ys : List ℕ) (got : ℕ) (h : Insid
       ∙ ap (λ (i : ℕ). ltb (leftOver + i) (length x)) (sym (length-take-le got ys k))
       ∙ ap (λ (b : Bool). pick b (ltb (leftOver + length (take got ys)) (length x)) (w .ended)) (sym yes)
 
-  pub refilled-read : (t : Bool) → t ≡ ltb got (length x1 - leftOver) → w .len - w .from < wanted → w .ended ≡ false → Refilled wanted w x (filled t) readInto
+  pub refilled-read : (t : Bool) → t ≡ ltb got (length x1 - leftOver) → w .len - w .from < wanted → w .ended ≡ false
+      → Refilled wanted w x (filled t) readInto
   refilled-read t f less n = record {
     got = take got ys;
     bytes = read-bytes;
