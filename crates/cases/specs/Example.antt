@@ -8,7 +8,7 @@ use mathlib.Core.List.{List, [], _∷_}
 abbrev pub exampleIn : List ℕ
 exampleIn = 82 ∷ 77 ∷ 4 ∷ 0 ∷ 0 ∷ 1 ∷ 2 ∷ 3 ∷ 71 ∷ 87 ∷ 4 ∷ 10 ∷ 16 ∷ 74 ∷ 0 ∷ 0 ∷ 0 ∷ 0 ∷ 75 ∷ 67 ∷ 1 ∷ 0 ∷ 2 ∷ []
 
--- "prints exactly: W 4A100A04 5, K 1 0, sent 0 received 0"
+-- "prints exactly": W 4A100A04 5, K 1 0, sent 0 received 0, each on a line of its own
 abbrev pub exampleOut : List ℕ
 exampleOut =
     87 ∷ 32 ∷ 52 ∷ 65 ∷ 49 ∷ 48 ∷ 48 ∷ 65 ∷ 48 ∷ 52 ∷ 32 ∷ 53 ∷ 10

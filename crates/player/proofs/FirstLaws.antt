@@ -105,8 +105,8 @@ first-some bs (Good r s) n e f h =
     let z = ram-fits bs r s (sym e) n g in
     (ap (λ (v : Record). Good v s) g ∙ ap (λ (v : ℕ). Good (Ram n) v) (z .1 .0), (z .0 .1, z .1 .1))
 
-pub first-is : (bs : List ℕ) (n : ℕ) → n ≡ kindsIn (decode true bs) → n ≢ 0
-    → (decode true bs ≡ Good (Ram n) (4 + n)) × ((n ≤ ramMax) × (4 + n ≤ length bs))
+pub first-is : (bs : List ℕ) (n : ℕ) → n ≡ kindsIn (decode true bs) → n ≢ 0 → (decode true bs ≡ Good (Ram n) (4 + n)) × ((n ≤ ramMax) ×
+    (4 + n ≤ length bs))
 first-is bs n e h = first-some bs (decode true bs) n refl (sym e) h
 
 pub first-room : (w : Window) (x : List ℕ) (n : ℕ) → Inside w x → 4 + n ≤ length (windowOf w x) → w .from + (4 + n) ≤ w .len
@@ -146,8 +146,8 @@ module _ (bs : List ℕ) (ended : Bool) (h : Enough bs ended) (more : List ℕ) 
       ∙ ap (λ (l : List ℕ). replayFor k (4 + n) (freshMachine (take n (drop 4 bs))) l) (drop-append-le (4 + n) bs more g)
       ∙ fuel k (suc (length rest)) (4 + n) (freshMachine (take n (drop 4 bs))) rest long (omega arith)
 
-pub printed-bad : (w : Window) (x y y′ : List ℕ) (end n : ℕ) → Enough (windowOf w x) (w .ended) → n ≡ kindsIn (decode true (windowOf w x))
-    → n ≡ 0
+pub printed-bad : (w : Window) (x y y′ : List ℕ) (end n : ℕ) → Enough (windowOf w x) (w .ended) → n ≡ kindsIn (decode true
+    (windowOf w x)) → n ≡ 0
     → Ends y 0 (badLine 0) y′ end → Printed (windowOf w x) (record { end = end; ended = w .ended }) y′
 printed-bad w x y y′ end n h k e z =
     let bs = windowOf w x in
@@ -184,7 +184,8 @@ begun-holds w n s x y h g b = record {
   room = omega (arith, b .at);
 }
 
-fresh-is : (c : Controller) (m k t u l ks : List ℕ) → c ≡ freshController → k ≡ ks → Fresh m t u l → machineAt c m k t u l ≡ freshMachine ks
+fresh-is : (c : Controller) (m k t u l ks : List ℕ) → c ≡ freshController → k ≡ ks → Fresh m t u l → machineAt c m k t u l
+    ≡ freshMachine ks
 unfolding freshMachine emptySet
 fresh-is c m k t u l ks e f g = λ i. machineAt (e i) (g .mem i) (f i) (g .state i) (g .used i) (g .lens i)
 
@@ -203,8 +204,8 @@ module _ (w : Window) (x : List ℕ) (h : Enough (windowOf w x) (w .ended)) (n :
       let k2 = subst (λ (z : Machine). Lines bs [] [] true (4 + n) z rest (w .ended)) (sym is) k1 in
       let k3 = subst (λ (z : ℕ). Lines bs [] [] true z (machineAt (s .ctl) m k t u l) rest (w .ended)) (sym (b .offset)) k2 in
       let k4 = subst (λ (z : List ℕ). Lines bs [] [] true (s .offset) (machineAt (s .ctl) m k t u l) z (w .ended)) (sym j) k3 in
-      let k5 = subst (λ (z : Bool). Lines bs [] [] true (s .offset) (machineAt (s .ctl) m k t u l) (windowOf (s .window) x) z)
-      (sym (b .window .ended)) k4 in
+      let k5 = subst (λ (z : Bool). Lines bs [] [] true (s .offset) (machineAt (s .ctl) m k t u l) (windowOf (s .window) x) z) (sym
+      (b .window .ended)) k4 in
       let k6 = subst (λ (z : Bool). Lines bs [] [] z (s .offset) (machineAt (s .ctl) m k t u l) (windowOf (s .window) x)
       (s .window .ended)) (sym (b .going)) k5 in
       record {

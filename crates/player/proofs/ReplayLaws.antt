@@ -1,4 +1,4 @@
--- `replay` one record at a time, and what that does to what was read and written. Assumes nothing.
+-- `replay` one record at a time, and what that does to what was read and flushed. Assumes nothing.
 --     fuel                     bytes enough to count the records: any number over their length gives the same lines
 --     from-end, from-bad, from-good     what is printed for what stands next
 --     decode-more              a window that decides, decides whatever may come
@@ -68,8 +68,8 @@ module _ (o : ℕ) (s : Machine) (bs : List ℕ) where
 pub decode-more : (first : Bool) (w : List ℕ) (ended : Bool) (more : List ℕ) → Enough w ended → MayCome ended more
     → decode first (w ++ more) ≡ decode first w
 decode-more first w ended more (inl h) m = decode-append w more h first
-decode-more first w ended more (inr e) m = ap (λ (l : List ℕ). decode first (w ++ l)) (m e)
-    ∙ ap (λ (l : List ℕ). decode first l) (append-nil w)
+decode-more first w ended more (inr e) m = ap (λ (l : List ℕ). decode first (w ++ l)) (m e) ∙ ap (λ (l : List ℕ). decode first l)
+    (append-nil w)
 
 -- ---- the parts of a turn
 
@@ -109,7 +109,7 @@ flush-at : (t : Bool) (wrote rest y : List ℕ) (at : ℕ)
 flush-at true wrote rest y at = ap (λ (l : List ℕ). l ++ (take at y ++ rest)) (sym (append-nil wrote))
 flush-at false wrote rest y at = sym (append-assoc wrote (take at y) rest)
 
-pub lines-flush : (read wrote y : List ℕ) (at o : ℕ) (s : Machine) (w : List ℕ) (ended : Bool)
-    → Lines read wrote (take at y) true o s w ended
+pub lines-flush : (read wrote y : List ℕ) (at o : ℕ) (s : Machine) (w : List ℕ) (ended : Bool) → Lines read wrote
+    (take at y) true o s w ended
     → Lines read (wrote ++ flushed at y) (take (keptAt at) y) true o s w ended
 lines-flush read wrote y at o s w ended f more m = f more m ∙ flush-at (leb at gatheredMax) wrote (replayFrom o s (w ++ more)) y at

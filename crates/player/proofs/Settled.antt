@@ -21,8 +21,8 @@ linesAt wrote r m k t u l x y more =
     wrote ++ (take (r .at) y ++ toCome (r .going) (r .offset) (machineAt (r .ctl) m k t u l) (windowOf (r .window) x ++ more))
 
 pub turned-unique : (s : Run) (m k t u l x y : List ℕ) (r : Run) (m1 k1 t1 u1 l1 x1 y1 : List ℕ) (q : Run) (m2 k2 t2 u2 l2 x2 y2 : List ℕ)
-    (a : Turned s m k t u l x y r m1 k1 t1 u1 l1 x1 y1) (b : Turned s m k t u l x y q m2 k2 t2 u2 l2 x2 y2)
-    → a .filled .got ≡ b .filled .got
+    (a : Turned s m k t u l x y r m1 k1 t1 u1 l1 x1 y1) (b : Turned s m k t u l x y q m2 k2 t2 u2 l2 x2 y2) → a .filled .got
+    ≡ b .filled .got
     → (read wrote : List ℕ) → length (read ++ a .filled .got) < offsetEnd → Stands read wrote s m k t u l x y
     → (more : List ℕ) → MayCome (r .window .ended) more → MayCome (q .window .ended) more
     → linesAt (wrote ++ flushed (s .at) y) r m1 k1 t1 u1 l1 x1 y1 more ≡ linesAt (wrote ++ flushed (s .at) y) q m2 k2 t2 u2 l2 x2 y2 more

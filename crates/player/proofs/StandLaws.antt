@@ -67,8 +67,8 @@ module _ (d : Decoded) (w : Window) (c : Controller) (at o : ℕ) (m k t u l y :
 
   acted-stop : (line y′ : List ℕ) (end : ℕ) (r : Run) → r ≡ runAt c end w o false → Ends y at line y′ end
       → ((read wrote x : List ℕ) → Enough (windowOf w x) (w .ended) → d ≡ decode false (windowOf w x)
-      → Lines read wrote (take at y) true o before (windowOf w x) (w .ended)
-      → Lines read wrote (take at y ++ line) false o before (windowOf w x) (w .ended))
+      → Lines read wrote (take at y) true o before (windowOf w x) (w .ended) → Lines read wrote (take at y ++ line) false o before
+      (windowOf w x) (w .ended))
       → Acted d w c at o m k t u l y r m k t u l y′
   acted-stop line y′ end r e z g =
       subst (λ (s : Run). Acted d w c at o m k t u l y s m k t u l y′) (sym e) (record {
@@ -85,8 +85,8 @@ module _ (d : Decoded) (w : Window) (c : Controller) (at o : ℕ) (m k t u l y :
         );
       })
 
-  pub acted-end : (y′ : List ℕ) (end : ℕ) (r : Run) → d ≡ End → r ≡ runAt c end w o false
-      → Ends y at (sentLine (c .sent) (c .received)) y′ end
+  pub acted-end : (y′ : List ℕ) (end : ℕ) (r : Run) → d ≡ End → r ≡ runAt c end w o false → Ends y at (sentLine (c .sent)
+      (c .received)) y′ end
       → Acted d w c at o m k t u l y r m k t u l y′
   acted-end y′ end r e f z =
       acted-stop (sentLine (c .sent) (c .received)) y′ end r f z
@@ -112,14 +112,14 @@ module _ (d : Decoded) (w : Window) (c : Controller) (at o : ℕ) (m k t u l y :
       within = omega (arith, a .window .len, i .within);
     }
 
-    good-offset : (read wrote x : List ℕ) → length read < offsetEnd → n ≤ length (windowOf w x)
-        → Stands read wrote (runAt c at w o true) m k t u l x y
+    good-offset : (read wrote x : List ℕ) → length read < offsetEnd → n ≤ length (windowOf w x) → Stands read wrote
+        (runAt c at w o true) m k t u l x y
         → o + n ≡ r .offset
     good-offset read wrote x h g f = omega (arith, a .offset, f .place, h, g)
 
     good-stands : (read wrote x : List ℕ) → length read < offsetEnd → d ≡ decode false (windowOf w x) → Enough (windowOf w x) (w .ended)
-        → Stands read wrote (runAt c at w o true) m k t u l x y
-        → Stands read wrote r m′ k′ t′ u′ l′ x y′ × (r .going ≡ true → o < r .offset)
+        → Stands read wrote (runAt c at w o true) m k t u l x y → Stands read wrote r m′ k′ t′ u′ l′ x y′ × (r .going ≡ true
+        → o < r .offset)
     good-stands read wrote x h q g f =
         let bs = windowOf w x in
         let q′ : decode false bs ≡ Good v n = sym q ∙ e in
@@ -132,16 +132,16 @@ module _ (d : Decoded) (w : Window) (c : Controller) (at o : ℕ) (m k t u l y :
         let k1 = lines-good read wrote (take at y) o before bs (w .ended) g (f .lines) v n q′ in
         let k2 = subst (λ (b : List ℕ). Lines read wrote b true (o + n) (s .1) (drop n bs) (w .ended)) gathered-is k1 in
         let k3 = subst (λ (b : Machine). Lines read wrote (take (r .at) y′) true (o + n) b (drop n bs) (w .ended)) after-is k2 in
-        let k4 = subst (λ (b : ℕ). Lines read wrote (take (r .at) y′) true b (machineAt (r .ctl) m′ k′ t′ u′ l′) (drop n bs) (w .ended)) i
-        k3 in
+        let k4 = subst (λ (b : ℕ). Lines read wrote (take (r .at) y′) true b (machineAt (r .ctl) m′ k′ t′ u′ l′) (drop n bs)
+        (w .ended)) i k3 in
         let k5 = subst (λ (b : List ℕ). Lines read wrote (take (r .at) y′) true (r .offset) (machineAt (r .ctl) m′ k′ t′ u′ l′) b
         (w .ended)) (sym j) k4 in
-        let k6 = subst (λ (b : Bool). Lines read wrote (take (r .at) y′) true (r .offset) (machineAt (r .ctl) m′ k′ t′ u′ l′)
-        (windowOf (r .window) x) b) (sym (a .window .ended)) k5 in (
+        let k6 = subst (λ (b : Bool). Lines read wrote (take (r .at) y′) true (r .offset) (machineAt (r .ctl) m′ k′ t′ u′ l′) (windowOf
+        (r .window) x) b) (sym (a .window .ended)) k5 in (
           record {
             place = ap (λ (b : List ℕ). r .offset + length b) j ∙ ap (λ (b : ℕ). r .offset + b) (length-drop n bs) ∙ rest;
-            lines = subst (λ (b : Bool). Lines read wrote (take (r .at) y′) b (r .offset) (machineAt (r .ctl) m′ k′ t′ u′ l′)
-                (windowOf (r .window) x) (r .window .ended)) (sym (a .going)) k6;
+            lines = subst (λ (b : Bool). Lines read wrote (take (r .at) y′) b (r .offset) (machineAt (r .ctl) m′ k′ t′ u′ l′) (windowOf
+                (r .window) x) (r .window .ended)) (sym (a .going)) k6;
           },
           λ b. omega (arith, i, z .0),
         )
@@ -163,8 +163,8 @@ kept-few-at false a e = omega arith
 pub kept-few : (a r : ℕ) → r ≡ keptAt a → r ≤ gatheredMax
 kept-few a r e = subst (λ (z : ℕ). z ≤ gatheredMax) (sym e) (kept-few-at (leb a gatheredMax) a refl)
 
-module _ (s : Run) (m k t u l x y : List ℕ) (w : Window) (x′ : List ℕ) (g : Refilled recordMax (s .window) x w x′)
-    (going : s .going ≡ true) where
+module _ (s : Run) (m k t u l x y : List ℕ) (w : Window) (x′ : List ℕ) (g : Refilled recordMax (s .window) x w x′) (going : s .going
+    ≡ true) where
   turn-middle : (at : ℕ) → at ≡ keptAt (s .at) → (read wrote : List ℕ) → Stands read wrote s m k t u l x y
       → Stands (read ++ g .got) (wrote ++ flushed (s .at) y) (runAt (s .ctl) at w (s .offset) true) m k t u l x′ y
   turn-middle at e read wrote f =
@@ -175,8 +175,8 @@ module _ (s : Run) (m k t u l x y : List ℕ) (w : Window) (x′ : List ℕ) (g 
       let k1 = subst (λ (z : Bool). Lines read wrote (take (s .at) y) z o b v (s .window .ended)) going (f .lines) in
       let k2 = lines-refill read wrote (take (s .at) y) o b v (s .window .ended) (w .ended) (g .got) (g .stays) k1 in
       let k3 = lines-flush all wrote y (s .at) o b (v ++ g .got) (w .ended) k2 in
-      let k4 = subst (λ (z : List ℕ). Lines all (wrote ++ flushed (s .at) y) (take (keptAt (s .at)) y) true o b z (w .ended))
-      (sym (g .bytes)) k3 in
+      let k4 = subst (λ (z : List ℕ). Lines all (wrote ++ flushed (s .at) y) (take (keptAt (s .at)) y) true o b z (w .ended)) (sym
+      (g .bytes)) k3 in
       let long : o + (length v + length (g .got)) ≡ length read + length (g .got) = omega (arith, f .place) in
       record {
         place =
@@ -221,8 +221,8 @@ module _ (s : Run) (m k t u l x y : List ℕ) where
   }
 
   module _ (turns : ℕ) (r : Run) (m1 k1 t1 u1 l1 x1 y1 : List ℕ) (a : Reached turns s m k t u l x y r m1 k1 t1 u1 l1 x1 y1) where
-    pub reached-more : (left : ℕ) (q : Run) (m2 k2 t2 u2 l2 x2 y2 : List ℕ) → r .going ≡ true → 0 < turns
-        → left ≡ pick (q .going) (turns - 1) 0
+    pub reached-more : (left : ℕ) (q : Run) (m2 k2 t2 u2 l2 x2 y2 : List ℕ) → r .going ≡ true → 0 < turns → left ≡ pick (q .going)
+        (turns - 1) 0
         → Turned r m1 k1 t1 u1 l1 x1 y1 q m2 k2 t2 u2 l2 x2 y2 → Reached left s m k t u l x y q m2 k2 t2 u2 l2 x2 y2
     reached-more left q m2 k2 t2 u2 l2 x2 y2 going some is b =
         let g1 = a .got in
@@ -238,7 +238,8 @@ module _ (s : Run) (m k t u l x y : List ℕ) where
               let v = a .stands read wrote n1 f in
               let w = b .stands (read ++ g1) (wrote ++ a .put) n2 (v .0) in (
                 subst (λ (z : List ℕ). Stands z (wrote ++ (a .put ++ p2)) q m2 k2 t2 u2 l2 x2 y2) e
-                    (subst (λ (z : List ℕ). Stands ((read ++ g1) ++ g2) z q m2 k2 t2 u2 l2 x2 y2) (append-assoc wrote (a .put) p2) (w .0)),
+                    (subst (λ (z : List ℕ). Stands ((read ++ g1) ++ g2) z q m2 k2 t2 u2 l2 x2 y2) (append-assoc wrote (a .put) p2)
+                    (w .0)),
                 λ z.
                     let less : left ≡ turns - 1 = is ∙ ap (λ (c : Bool). pick c (turns - 1) 0) z in
                     omega (arith, less, some, v .1 going, w .1 z),
@@ -257,8 +258,8 @@ not-going false o n f h = refl
 pub reached-over : (s : Run) (m k t u l x y : List ℕ) (r : Run) (m1 k1 t1 u1 l1 x1 y1 : List ℕ)
     (a : Reached 0 s m k t u l x y r m1 k1 t1 u1 l1 x1 y1)
     → (read wrote : List ℕ) → length (read ++ a .got) < offsetEnd → Stands read wrote s m k t u l x y
-    → Lines (read ++ a .got) (wrote ++ a .put) (take (r .at) y1) false (r .offset) (machineAt (r .ctl) m1 k1 t1 u1 l1)
-    (windowOf (r .window) x1) (r .window .ended)
+    → Lines (read ++ a .got) (wrote ++ a .put) (take (r .at) y1) false (r .offset) (machineAt (r .ctl) m1 k1 t1 u1 l1) (windowOf
+    (r .window) x1) (r .window .ended)
 reached-over s m k t u l x y r m1 k1 t1 u1 l1 x1 y1 a read wrote n f =
     let v = a .stands read wrote n f in
     let place = v .0 .place in

@@ -4,8 +4,7 @@
 --     Enough w ended             the window decides what stands next: it has the bytes of any record, or the input has ended
 --     toCome going o s bs        what is still to be printed: nothing, once the run is over
 --     Lines ..                   `replay` of all bytes read, and of any that may come, is what was handed to the write, then what is
---                                gathered,
---                                then what is still to be printed
+--                                gathered, then what is still to be printed
 --     Stands read wrote r ..     so stands the run r with its tables and buffers; the offset is that of the window in all bytes read
 --     Holds r x y                the window lies in the buffer x, and the lines gathered in y
 --     offsetEnd                  one past the largest offset: the promises are for inputs of fewer bytes

@@ -1,7 +1,7 @@
 // A bench file replayed from any descriptor to any other: what is read is decoded and played record by record, and its lines are written.
 // Promises: over all bytes read so far, the bytes handed to the write and those gathered are what `replay` prints up to there; a fresh
-// machine
-// with the first record's kinds stands at the beginning; the last line is `replay`'s. What the kit's own read and write do is not promised.
+// machine with the first record's kinds stands at the beginning; the last line is `replay`'s. What the kit's own read and write do is not
+// promised.
 // Document 01, "The bench".
 
 use controller::Controller;
@@ -36,8 +36,8 @@ ghost use Rattle.records.specs.Records.{ramMax, recordMax, decode};
 ghost use Rattle.records.specs.Lines.{lineMax, sentLine, badLine};
 ghost use Rattle.window.specs.Window.{windowOf, Inside};
 ghost use Rattle.player.specs.Stands.{Enough, Stands, Holds, offsetEnd, runAt};
-ghost use Rattle.player.specs.Turns.{gatheredMax, roomMin, keptAt, sizeOf, kindsOf, kindsIn, Ends, Went, Begun, Fresh, Acted};
-ghost use Rattle.player.specs.Turns.{Turned, Reached, Printed, Replayed};
+ghost use Rattle.player.specs.Turns.{gatheredMax, roomMin, keptAt, sizeOf, kindsOf, kindsIn, Ends, Went, Begun, Fresh};
+ghost use Rattle.player.specs.Turns.{Acted, Turned, Reached, Printed, Replayed};
 
 // Lines are written out where more than this many bytes of them are gathered.
 const GATHERED: usize = 4096;
@@ -46,12 +46,12 @@ const GATHERED: usize = 4096;
 const KINDS_AT: usize = 4;
 
 // The run between two records: the controller, where the next line goes, the window, the next record's offset, and whether it goes on.
-pub struct Run {
-    pub ctl: Controller,
-    pub at: usize,
-    pub window: Window,
-    pub offset: u64,
-    pub going: bool,
+struct Run {
+    ctl: Controller,
+    at: usize,
+    window: Window,
+    offset: u64,
+    going: bool,
 }
 
 // The end of a run: how many bytes were handed to the write last, and whether the input had been read to its end.
@@ -380,8 +380,7 @@ fn play_input(
 }
 
 // All that is read from `fd` is replayed, and its lines are written to `to`. The two buffers are lent: the input has room for any record,
-// the
-// output for the lines gathered and those of a record.
+// the output for the lines gathered and those of a record.
 pub fn replay_file(fd: i32, to: i32, input: &mut [u8], out: &mut [u8]) -> Last
     requires { ⌜ (recordMax ≤ length (now input)) × (roomMin ≤ length (now out)) ⌝ }
     ensures { λ r. ⌜ Replayed r (now (out .exit)) ⌝ }

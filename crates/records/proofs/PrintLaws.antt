@@ -33,8 +33,8 @@ sets-before l i d (v ∷ vs) =
     ∙ ap (λ (k : ℕ). sets (set (set l i v) k d) (suc i) vs) (further i (length vs))
     ∙ sets-before (set l i v) (suc i) d vs
 
-pub sets-more : (l : List ℕ) (i k : ℕ) (s : List ℕ) → k < length s
-    → set (sets l i (take k s)) (i + k) (getD s k 0) ≡ sets l i (take (k + 1) s)
+pub sets-more : (l : List ℕ) (i k : ℕ) (s : List ℕ) → k < length s → set (sets l i (take k s)) (i + k) (getD s k 0) ≡ sets l i (take
+    (k + 1) s)
 sets-more l i k s h =
     let t = take k s in
     let n : length t ≡ k = length-take-le k s (omega arith) in
@@ -63,8 +63,8 @@ sets-decimal l i j m h b e =
 
 pub prints-then : {x y z : List ℕ} {i j k : ℕ} {l m : List ℕ} → Prints x i l y j → Prints y j m z k → Prints x i (l ++ m) z k
 prints-then {x} {y} {z} {i} {j} {k} {l} {m} p q = record {
-  ends = q .ends ∙ ap (λ (a : ℕ). a + length m) (p .ends) ∙ add-assoc i (length l) (length m)
-      ∙ ap (λ (a : ℕ). i + a) (sym (length-append l m));
+  ends = q .ends ∙ ap (λ (a : ℕ). a + length m) (p .ends) ∙ add-assoc i (length l) (length m) ∙ ap (λ (a : ℕ). i + a) (sym
+      (length-append l m));
   bytes = q .bytes ∙ ap (λ (b : List ℕ). sets b j m) (p .bytes) ∙ ap (λ (a : ℕ). sets (sets x i l) a m) (p .ends) ∙ sets-append x i l m;
 }
 

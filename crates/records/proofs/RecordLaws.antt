@@ -60,8 +60,8 @@ ram-fits bs t g h f =
     (three (leb 1 n) (leb n ramMax) (leb n blocksMax) (allKinds part) t (Good (Ram n) (4 + n)) Bad few fewer (rw len at f))
 
 -- with N as it was read, and the kinds as the part that was lent
-pub ram-whole : (bs : List ℕ) (n : ℕ) (t : Bool) → n ≡ u16At bs 2 → n ≤ ramMax → 4 + n ≤ length bs
-    → fitKinds (take (4 + n - 4) (drop 4 bs)) ≡ t
+pub ram-whole : (bs : List ℕ) (n : ℕ) (t : Bool) → n ≡ u16At bs 2 → n ≤ ramMax → 4 + n ≤ length bs → fitKinds (take (4 + n - 4)
+    (drop 4 bs)) ≡ t
     → pick t (Good (Ram n) (4 + n)) Bad ≡ decodeRam bs
 ram-whole bs n t e g h f =
     let k : 4 + n - 4 ≡ n = omega arith in

@@ -62,8 +62,7 @@ module _ (bs : List ℕ) where
       sized-pick (hasMark 71 87 bs) _ _ (sized-needs 10 _ (λ h. sized-good _ 10 (omega arith) h))
       (sized-pick (hasMark 75 67 bs) _ _ (sized-needs 5 _ (λ h. sized-good _ 5 (omega arith) h))
       (sized-pick (hasMark 70 82 bs) _ _ (sized-needs 4 _ (λ h. sized-good _ 4 (omega arith) h))
-      (sized-pick (hasMark 83 84 bs) _ _
-      (sized-needs 4 _ (λ h. sized-pick (both (leb (getD bs 2 0) engineMax) (leb 1 (getD bs 3 0))) _ _
+      (sized-pick (hasMark 83 84 bs) _ _ (sized-needs 4 _ (λ h. sized-pick (both (leb (getD bs 2 0) engineMax) (leb 1 (getD bs 3 0))) _ _
       (sized-good _ 4 (omega arith) h) sized-bad)) sized-bad)))
 
   pub decode-sized : (first : Bool) → Sized bs (decode first bs)

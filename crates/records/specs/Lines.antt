@@ -1,6 +1,5 @@
 -- The line that is printed for what happened (`Event`, src/lib.rt). Document 01, "The bench": "It prints `W` address answer; `K` block
--- answer;
--- `F` length answer; for a burst `R` or `S`, address, bytes". "Addresses are 8 hex capitals, all other numbers decimal."
+-- answer; `F` length answer; for a burst `R` or `S`, address, bytes". "Addresses are 8 hex capitals, all other numbers decimal."
 --     blank, newline    as bytes
 --     digitsMax, hexDigits   the most digits of a decimal number, and the digits of an address
 --     decimal n, hex8 a the digits, as bytes

@@ -15,10 +15,10 @@ ghost use mathlib.Core.List.{_∷_, []};
 ghost use Prim.Native.Nat.{_+_, _≤_, _<_};
 ghost use lib.ListN.{length};
 ghost use Rattle.records.specs.declared.Event.the-variants.{Moved};
-ghost use Rattle.records.specs.Records.{halfEnd, u16At, u32At, hasMark, engineOf, decodeRam, decodeWrite, decodeKind, decodeFrame};
-ghost use Rattle.records.specs.Records.{decodeSteps, decodeLater, decode};
-ghost use Rattle.records.specs.Lines.{blank, digitsMax, decimal, hexDigit, hexDigits, hex8, tailWith, lineWith, lineOf, sentLine};
-ghost use Rattle.records.specs.Lines.{badLine, lineMax, Prints};
+ghost use Rattle.records.specs.Records.{halfEnd, u16At, u32At, hasMark, engineOf};
+ghost use Rattle.records.specs.Records.{decodeRam, decodeWrite, decodeKind, decodeFrame, decodeSteps, decodeLater, decode};
+ghost use Rattle.records.specs.Lines.{blank, digitsMax, decimal, hexDigit, hexDigits, hex8, tailWith};
+ghost use Rattle.records.specs.Lines.{lineWith, lineOf, sentLine, badLine, lineMax, Prints};
 
 // One record of a bench file. The kinds of a `Ram` record stand behind its four bytes of mark and N.
 pub enum Record {
@@ -264,9 +264,6 @@ pub fn decode_record(bs: &[u8], first: bool) -> Decoded
     }
     decode_later(bs)
 }
-
-// Room enough for any line: what a caller has to leave behind the place where it puts one.
-pub const LINE_MAX: usize = 64;
 
 const HEX_DIGITS: usize = 8;
 

@@ -27,7 +27,7 @@ use Rattle.records.proofs.PrintLaws.{prints-then}
 use Rattle.replay.specs.declared.Happening.{Happening}
 use Rattle.replay.specs.declared.Played.{Played}
 use Rattle.replay.specs.Replay.{stepsOf, recordOf}
-use Rattle.replay.specs.Plays.{Tells, Moves, Shows, Plays, Goes}
+use Rattle.replay.specs.Plays.{Tells, MovesOn, Shows, Plays, Goes}
 
 -- ---- lines
 append-none : (l : List ℕ) → l ++ [] ≡ l
@@ -77,8 +77,9 @@ module _ (c : Controller) (m k t u l : List ℕ) (w : After) (m1 k1 t1 u1 l1 : L
     lens = h .lens;
   }
 
-pub frame-tells : (n : ℕ) (c : Controller) (r : After) (i : ℕ) → ((m : List ℕ) → Carries (applyFrame n) c m r m) → i ≡ numberOf (r .answer)
-    → (m : List ℕ) → Moves (recordOf (Frame n)) c m (record { ctl = r .ctl; event = Framed n i }) m
+pub frame-tells : (n : ℕ) (c : Controller) (r : After) (i : ℕ) → ((m : List ℕ) → Carries (applyFrame n) c m r m) → i ≡ numberOf
+    (r .answer)
+    → (m : List ℕ) → MovesOn (recordOf (Frame n)) c m (record { ctl = r .ctl; event = Framed n i }) m
 unfolding recordOf
 frame-tells n c r i f e m k t u l =
     let h = f m k t u l in
@@ -93,7 +94,7 @@ frame-tells n c r i f e m k t u l =
     }
 
 pub step-tells : (e : Engine) (c : Controller) (m : List ℕ) (r : After) (m1 : List ℕ) → Carries (applyStep e) c m r m1
-    → Moves (stepsOf e 1) c m (record { ctl = r .ctl; event = Moved (r .burst) }) m1
+    → MovesOn (stepsOf e 1) c m (record { ctl = r .ctl; event = Moved (r .burst) }) m1
 step-tells e c m r m1 f k t u l =
     let h = f k t u l in
     record {
@@ -120,8 +121,8 @@ tells-plays p h m k t u l r x at y f s = record {
 }
 
 -- ---- steps one after another
-pub goes-none : (e : Engine) (n : ℕ) → n ≡ 0 → (c : Controller) (m x : List ℕ) (at : ℕ)
-    → Goes (stepsOf e n) c m (record { ctl = c; end = at }) m x at x
+pub goes-none : (e : Engine) (n : ℕ) → n ≡ 0 → (c : Controller) (m x : List ℕ) (at : ℕ) → Goes (stepsOf e n) c m
+    (record { ctl = c; end = at }) m x at x
 goes-none e n h c m x at k t u l =
     rw h (record {
       ctl = refl;
@@ -156,8 +157,8 @@ module _ (p : List Event × Machine) (r : Played) (m k t u l x : List ℕ) (at :
     text = rw (lines-append (p .0) (q .0)) (prints-then (g .text) (h .text));
   }
 
-pub goes-more : (e : Engine) (n j : ℕ) → j ≡ suc n
-    → (c : Controller) (m : List ℕ) (r : Played) (m1 x : List ℕ) (at : ℕ) (y : List ℕ) (r2 : Played) (m2 z : List ℕ)
+pub goes-more : (e : Engine) (n j : ℕ) → j ≡ suc n → (c : Controller) (m : List ℕ) (r : Played) (m1 x : List ℕ) (at : ℕ) (y : List ℕ)
+    (r2 : Played) (m2 z : List ℕ)
     → Goes (stepsOf e n) c m r m1 x at y → Goes (stepsOf e 1) (r .ctl) m1 r2 m2 y (r .end) z → Goes (stepsOf e j) c m r2 m2 x at z
 goes-more e n j h c m r m1 x at y r2 m2 z g f k t u l =
     let s = machineAt c m k t u l in
@@ -175,8 +176,8 @@ made-none n = omega arith
 pub made-more : (n left : ℕ) → 0 < left → left ≤ n → n - (left - 1) ≡ suc (n - left)
 made-more n left h k = omega (arith, h, k)
 
-pub step-room : (end left at n l l₀ : ℕ) → 0 < left → end + lineMax * left ≤ at + lineMax * n → n < 256 → at + lineMax * 256 ≤ l₀ → l ≡ l₀
-    → end + lineMax ≤ l
+pub step-room : (end left at n l l₀ : ℕ) → 0 < left → end + lineMax * left ≤ at + lineMax * n → n < 256 → at + lineMax * 256 ≤ l₀ → l
+    ≡ l₀ → end + lineMax ≤ l
 step-room end left at n l l₀ h i j k e = omega (arith, h, i, j, k, e)
 
 pub room-less : (end end′ left at n : ℕ) → 0 < left → end + lineMax * left ≤ at + lineMax * n → end′ ≤ end + lineMax

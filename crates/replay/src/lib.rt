@@ -26,9 +26,9 @@ ghost use Rattle.replay.specs.Replay.{stepsOf, recordOf};
 ghost use Rattle.replay.specs.Plays.{Tells, MovesOn, Shows, Plays, Goes};
 
 // What happened in one operation, and the controller afterwards.
-pub struct Happening {
-    pub ctl: Controller,
-    pub event: Event,
+struct Happening {
+    ctl: Controller,
+    event: Event,
 }
 
 // The controller after a record or some steps, and where the lines end.
@@ -48,9 +48,8 @@ fn happen_write(
     used: &mut Words,
     lens: &mut Lengths,
 ) -> Happening
-    ensures { λ h. ⌜ Tells
-        (recordOf (Write a v) (machineAt c (now (m .entry)) (now (kinds .entry)) (now (t .entry)) (now (used .entry)) (now (lens .entry))))
-        h
+    ensures { λ h. ⌜ Tells (recordOf (Write a v)
+        (machineAt c (now (m .entry)) (now (kinds .entry)) (now (t .entry)) (now (used .entry)) (now (lens .entry)))) h
         (now (m .exit)) (now (kinds .entry)) (now (t .exit)) (now (used .exit)) (now (lens .exit)) ⌝ }
 {
     let x = apply_write(a, v, c, m, kinds, t, used, lens);
@@ -71,8 +70,7 @@ fn happen_kind(
     used: &mut Words,
     lens: &mut Lengths,
 ) -> Happening
-    ensures { λ h. ⌜ Tells
-        (recordOf (Kind block kind)
+    ensures { λ h. ⌜ Tells (recordOf (Kind block kind)
         (machineAt c (now (m .entry)) (now (kinds .entry)) (now (t .entry)) (now (used .entry)) (now (lens .entry)))) h
         (now (m .entry)) (now (kinds .exit)) (now (t .exit)) (now (used .exit)) (now (lens .exit)) ⌝ }
 {
@@ -155,8 +153,8 @@ pub fn play(
 ) -> Played
     requires { ⌜ at + lineMax * 256 ≤ length (now out) ⌝ }
     ensures { λ p. ⌜ p .end ≤ at + lineMax * 256 ⌝ }
-    ensures { λ p. ⌜ Plays
-        (recordOf r (machineAt c (now (m .entry)) (now (kinds .entry)) (now (t .entry)) (now (used .entry)) (now (lens .entry)))) p
+    ensures { λ p. ⌜ Plays (recordOf r
+        (machineAt c (now (m .entry)) (now (kinds .entry)) (now (t .entry)) (now (used .entry)) (now (lens .entry)))) p
         (now (m .exit)) (now (kinds .exit)) (now (t .exit)) (now (used .exit)) (now (lens .exit)) (now (out .entry)) at
         (now (out .exit)) ⌝ }
 {

@@ -277,7 +277,7 @@ fresh-inv kinds f = record {
     channels = length-replicate channels idleChannel;
   };
   defined = refl;
-  heldBack = record {
+  held = record {
     fit = record { size = length-replicate {A = ℕ} descBytes 0; bytes = λ k. rw (getD-same {A = ℕ} descBytes k 0) (omega arith) };
     kinds = f;
     many = length-replicate {A = List ℕ} queues [];

@@ -20,5 +20,9 @@ refilled-unique {wanted} {w} {x} a b e = (
 )
 
 pub passed-unique : {w : Window} {n : ℕ} {r s : Window} → Passed w n r → Passed w n s → r ≡ s
-passed-unique a b = λ i. record
-    { from = (a .from ∙ sym (b .from)) i; len = (a .len ∙ sym (b .len)) i; ended = (a .ended ∙ sym (b .ended)) i }
+passed-unique a b = λ i. record {
+  from = (a .from ∙ sym (b .from)) i;
+  len = (a .len ∙ sym (b .len)) i;
+  ended = (a .ended ∙ sym
+      (b .ended)) i;
+}

@@ -14,8 +14,8 @@ use native.Mathlib.Nat.{zero-add}
 use native.Mathlib.Numerals.{add-one}
 use native.Mathlib.Omega.{arith}
 use lib.ListN.{length, getD, set, take, drop, length-drop, length-append, length-take}
-use lib.Seq.{paste, take-paste, paste-suc, length-paste, take-nil, drop-nil, length-take-le, length-slice, drop-drop, getD-drop}
-use lib.Seq.{take-append-add, take-append-le, getD-append-add}
+use lib.Seq.{paste, take-paste, paste-suc, length-paste, take-nil, drop-nil, length-take-le}
+use lib.Seq.{length-slice, drop-drop, getD-drop, take-append-add, take-append-le, getD-append-add}
 use lib.Dec.{ltb}
 use borrow.Author.Tests.{ltb-true, ltb-false, lt-ltb, le-ltb}
 use Rattle.layout.specs.Choice.{pick, both}
@@ -161,7 +161,14 @@ module _ (wanted : ℕ) (w : Window) (x x1 ys : List ℕ) (got : ℕ) (h : Insid
   enough-at : (t : Bool) → ltb got (length x1 - leftOver) ≡ t → (wanted ≤ length (windowOf (filled t) readInto)) ⊎ (t ≡ true)
   enough-at true f = inr refl
   enough-at false f =
-      inl (omega (arith, length-window (filled false) readInto (inside-at false), ltb-false got (length x1 - leftOver) f, length-moved, g))
+      inl (omega (
+        arith,
+        length-window (filled false) readInto (inside-at false),
+        ltb-false got
+            (length x1 - leftOver) f,
+        length-moved,
+        g,
+      ))
 
   ends-is : w .len - w .from < wanted → w .ended ≡ false
       → ltb got (length x1 - leftOver) ≡ pick (lacks wanted w) (ltb (leftOver + length (take got ys)) (length x)) (w .ended)

@@ -1,7 +1,6 @@
 // A window over any input: the bytes that were read and are not yet taken, in a lent buffer.
 // Promises: a window that is filled holds the bytes that it held, in front, and behind them those that the read put there; afterwards it
-// has
-// as many bytes as are wanted, or the input has ended. What the read puts there is what was read: no contract can say more of it.
+// has as many bytes as are wanted, or the input has ended. What the read puts there is what was read: no contract can say more of it.
 // Document 01, "The bench".
 
 ghost use mathlib.Core.Path.{_≡_};

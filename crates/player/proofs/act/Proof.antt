@@ -33,25 +33,28 @@ play-requires c κs = search needs
 
 go-on-requires : tie.Need-go-on-requires
 go-on-requires c κs =
-    good-fits (c .before .before .before .before .before .before .before .before .before .before .before .before .before .before .before
-    .before .before .before .before .args .w)
-    (c .before .before .before .before .before .before .before .before .before .before .before .before .before .before .d .given .1)
-    (c .before .before .before .before .before .before .before .before .before .before .before .before .before .before .before .before
-    .before .before .before .pre .0)
+    let at-play = c .before .before .before .before .before .before in
+    let at-d = at-play .before .before .before .before .before .before .before .before in
+    let start = at-d .before .before .before .before .before in
+    good-fits (start .args .w) (at-d .d .given .1) (start .pre .0)
 
 same-length : tie.Need-same-length
 same-length c = search needs
 
 returns : tie.Need-returns
-returns c = acted-end _ _ _ _ _ _ _ _ _ _ _ _ _ _ (c .before .before .before .before .before .enum-told .given .1) (c .stop .ensures)
-    (c .before .before .before .finish-sent .ensures)
+returns c =
+    let at-finish-sent = c .before .before .before in
+    let at-enum-told = at-finish-sent .before .before in
+    acted-end _ _ _ _ _ _ _ _ _ _ _ _ _ _ (at-enum-told .enum-told .given .1) (c .stop .ensures) (at-finish-sent .finish-sent .ensures)
 
 same-length-2 : tie.Need-same-length-2
 same-length-2 c = search needs
 
 returns-2 : tie.Need-returns-2
-returns-2 c = acted-bad _ _ _ _ _ _ _ _ _ _ _ _ _ _ (c .before .before .before .before .before .enum-told2 .given .1) (c .stop2 .ensures)
-    (c .before .before .before .finish-bad .ensures)
+returns-2 c =
+    let at-finish-bad = c .before .before .before in
+    let at-enum-told2 = at-finish-bad .before .before in
+    acted-bad _ _ _ _ _ _ _ _ _ _ _ _ _ _ (at-enum-told2 .enum-told2 .given .1) (c .stop2 .ensures) (at-finish-bad .finish-bad .ensures)
 
 same-length-3 : tie.Need-same-length-3
 same-length-3 c = search needs
@@ -64,12 +67,12 @@ same-length-5 c = search needs
 
 returns-3 : tie.Need-returns-3
 returns-3 c =
-    let h = c .before .before .before .before .before .before .before .before .before .before .before .before .before .before .before
-    .before .before .before .before .before .pre in
-    acted-good _ _ _ _ _ _ _ _ _ _ _ _ _
-    (c .before .before .before .before .before .before .before .before .before .before .before .before .before .before
-    .before .d .given .1) _ _ _ _ _ _ _ _ (c .before .before .before .before .before .before .before .play .ensures .1)
-    (c .go-on .ensures) (omega (arith, c .before .before .before .before .before .before .before .play .ensures .0, h .1, h .2)) (h .0)
+    let at-play = c .before .before .before .before .before .before .before in
+    let at-d = at-play .before .before .before .before .before .before .before .before in
+    let start = at-d .before .before .before .before .before in
+    let h = start .pre in
+    acted-good _ _ _ _ _ _ _ _ _ _ _ _ _ (at-d .d .given .1) _ _ _ _ _ _ _ _ (at-play .play .ensures .1) (c .go-on .ensures) (omega
+    (arith, at-play .play .ensures .0, h .1, h .2)) (h .0)
 
 pub act-spec : {M : Type 1} → statement M
 act-spec =

@@ -33,21 +33,25 @@ kinds-of-requires c κs = search needs
 
 returns : tie.Need-returns
 returns c =
-    let a = c .before .before .before .before .before .args in
-    sym (ap (λ (d : Decoded). kindsIn d) (c .enum-told .given .1))
-    ∙ first-kinds (a .w) (a .input .now) _ (c .before .before .decode-record .ensures)
+    let start = c .before .before .before .before .before in
+    let a = start .args in
+    sym (ap (λ (d : Decoded). kindsIn d) (c .enum-told .given .1)) ∙ first-kinds (a .w) (a .input .now) _
+    (c .before .before .decode-record .ensures)
 
 returns-2 : tie.Need-returns-2
 returns-2 c =
-    let a = c .before .before .before .before .before .args in
-    sym (ap (λ (d : Decoded). kindsIn d) (c .enum-told2 .given .1))
-    ∙ first-kinds (a .w) (a .input .now) _ (c .before .before .decode-record .ensures)
+    let start = c .before .before .before .before .before in
+    let a = start .args in
+    sym (ap (λ (d : Decoded). kindsIn d) (c .enum-told2 .given .1)) ∙ first-kinds (a .w) (a .input .now) _
+    (c .before .before .decode-record .ensures)
 
 returns-3 : tie.Need-returns-3
 returns-3 c =
-    let a = c .before .before .before .before .before .before .before .args in
-    c .kinds-of .ensures ∙ sym (ap (λ (d : Decoded). kindsIn d) (c .before .before .d .given .1))
-    ∙ first-kinds (a .w) (a .input .now) _ (c .before .before .before .before .decode-record .ensures)
+    let at-decode-record = c .before .before .before .before in
+    let start = at-decode-record .before .before .before in
+    let a = start .args in
+    c .kinds-of .ensures ∙ sym (ap (λ (d : Decoded). kindsIn d) (c .before .before .d .given .1)) ∙ first-kinds (a .w) (a .input .now) _
+    (at-decode-record .decode-record .ensures)
 
 pub count-kinds-spec : {M : Type 1} → statement M
 count-kinds-spec =

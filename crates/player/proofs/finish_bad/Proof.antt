@@ -10,14 +10,18 @@ put-bad-requires c κs = search needs
 
 emit-requires : tie.Need-emit-requires
 emit-requires c κs =
-    line-room (c .before .before .before .put-bad .ensures) (length-badLine _) (c .before .before .before .before .before .before .pre)
+    let at-put-bad = c .before .before .before in
+    let start = at-put-bad .before .before .before in
+    line-room (at-put-bad .put-bad .ensures) (length-badLine _) (start .pre)
 
 same-length : tie.Need-same-length
 same-length c = search needs
 
 returns : tie.Need-returns
-returns c = line-ends (c .before .before .before .before .put-bad .ensures) (length-badLine _)
-    (c .before .before .before .before .before .before .before .pre)
+returns c =
+    let at-put-bad = c .before .before .before .before in
+    let start = at-put-bad .before .before .before in
+    line-ends (at-put-bad .put-bad .ensures) (length-badLine _) (start .pre)
 
 pub finish-bad-spec : {M : Type 1} → statement M
 finish-bad-spec = tie.close (tie.spec put-bad-requires emit-requires same-length returns)

@@ -10,15 +10,18 @@ put-totals-requires c κs = search needs
 
 emit-requires : tie.Need-emit-requires
 emit-requires c κs =
-    line-room (c .before .before .before .put-totals .ensures) (length-sentLine _ _)
-    (c .before .before .before .before .before .before .pre)
+    let at-put-totals = c .before .before .before in
+    let start = at-put-totals .before .before .before in
+    line-room (at-put-totals .put-totals .ensures) (length-sentLine _ _) (start .pre)
 
 same-length : tie.Need-same-length
 same-length c = search needs
 
 returns : tie.Need-returns
-returns c = line-ends (c .before .before .before .before .put-totals .ensures) (length-sentLine _ _)
-    (c .before .before .before .before .before .before .before .pre)
+returns c =
+    let at-put-totals = c .before .before .before .before in
+    let start = at-put-totals .before .before .before in
+    line-ends (at-put-totals .put-totals .ensures) (length-sentLine _ _) (start .pre)
 
 pub finish-sent-spec : {M : Type 1} → statement M
 finish-sent-spec = tie.close (tie.spec put-totals-requires emit-requires same-length returns)

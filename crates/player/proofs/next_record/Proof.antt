@@ -17,8 +17,9 @@ decode-record-requires : tie.Need-decode-record-requires
 decode-record-requires c κs = search needs
 
 returns : tie.Need-returns
-returns c = next-fits (c .before .before .before .args .w) (c .before .before .before .args .input .now) _ (c .before .before .before .pre)
-    (c .decode-record .ensures)
+returns c =
+    let start = c .before .before .before in
+    next-fits (start .args .w) (start .args .input .now) _ (start .pre) (c .decode-record .ensures)
 
 pub next-record-spec : {M : Type 1} → statement M
 next-record-spec =

@@ -31,22 +31,25 @@ slice-aggregate-play-input-2 c = search needs
 
 play-input-requires : tie.Need-play-input-requires
 play-input-requires c κs =
-    let p = c .before .before .before .before .before .before .before .before .before .before .before .before .before .before .before
-    .before .before .before .pre in
-    let g = c .before .before .before .before .before .before .before .before .before .refill .ensures in (
-      le-of (p .0) (c .before .before .before .before .before .before .before .before .before .refill .kept .1 .0),
+    let at-refill = c .before .before .before .before .before .before .before .before .before in
+    let at-no-lengths = at-refill .before .before in
+    let at-no-words = at-no-lengths .before in
+    let at-no-state = at-no-words .before in
+    let at-kinds-table = at-no-state .before in
+    let at-descriptors = at-kinds-table .before in
+    let start = at-descriptors .before .before .before in
+    let p = start .pre in
+    let g = at-refill .refill .ensures in (
+      le-of (p .0) (at-refill .refill .kept .1 .0),
       p .1,
-      sym (c .before .before .before .before .before .before .before .before .before .before .before .before .before
-          .before .kinds-table .ensures),
+      sym (at-kinds-table .kinds-table .ensures),
       g .inside,
       g .enough,
       record {
-        mem = c .before .before .before .before .before .before .before .before .before .before .before .before .before .before
-            .before .descriptors .ensures;
-        state = c .before .before .before .before .before .before .before .before .before .before .before .before
-            .before .no-state .ensures;
-        used = c .before .before .before .before .before .before .before .before .before .before .before .before .no-words .ensures;
-        lens = c .before .before .before .before .before .before .before .before .before .before .before .no-lengths .ensures;
+        mem = at-descriptors .descriptors .ensures;
+        state = at-no-state .no-state .ensures;
+        used = at-no-words .no-words .ensures;
+        lens = at-no-lengths .no-lengths .ensures;
       },
     )
 

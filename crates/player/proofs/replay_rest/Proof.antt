@@ -28,29 +28,30 @@ loop-holds c =
 
 take-turn-requires : tie.Need-take-turn-requires Inv-loop μ-loop
 take-turn-requires c κs =
-    let inv = c .before .before .before .before .before .before .before .before .loop .inv in
-    let p = c .before .before .before .before .before .before .before .before .before .before .before .before .before .pre in (
-      le-of (p .0) (inv .0 .0),
-      le-of (p .1) (inv .0 .3),
-      inv .1 .0,
-      inv .1 .1 (c .before .before .before .before .before .before .before .loop-test .taken),
-    )
+    let at-loop-test = c .before .before .before .before .before .before .before in
+    let at-loop = at-loop-test .before in
+    let start = at-loop .before .before .before .before .before in
+    let inv = at-loop .loop .inv in
+    let p = start .pre in
+    (le-of (p .0) (inv .0 .0), le-of (p .1) (inv .0 .3), inv .1 .0, inv .1 .1 (at-loop-test .loop-test .taken))
 
 turns-left-requires : tie.Need-turns-left-requires Inv-loop μ-loop
 turns-left-requires c κs =
-    c .before .before .before .before .before .before .before .before .before .before .before .before .before .before .before
-    .before .loop-test .taken
+    let at-take-turn = c .before .before .before .before .before .before .before .before in
+    let at-loop-test = at-take-turn .before .before .before .before .before .before .before .before in
+    at-loop-test .loop-test .taken
 
 loop-less : tie.Need-loop-less Inv-loop μ-loop
 loop-less c = c .turns-left .ensures .1
 
 loop-again : tie.Need-loop-again Inv-loop μ-loop
 loop-again c =
-    let inv = c .before .before .before .before .before .before .before .before .before .before .before .before .before .before .before
-    .before .before .before .loop .inv in
-    let call = c .before .before .before .before .before .before .before .before .before .take-turn in
-    let some = c .before .before .before .before .before .before .before .before .before .before .before .before .before .before .before
-    .before .before .loop-test .taken in
+    let at-take-turn = c .before .before .before .before .before .before .before .before .before in
+    let at-loop-test = at-take-turn .before .before .before .before .before .before .before .before in
+    let at-loop = at-loop-test .before in
+    let inv = at-loop .loop .inv in
+    let call = at-take-turn .take-turn in
+    let some = at-loop-test .loop-test .taken in
     let kept = call .kept in (
       (
         kept .1 .1 .0 ∙ inv .0 .0,

@@ -14,17 +14,18 @@ next-record-requires : tie.Need-next-record-requires
 next-record-requires c κs = search needs
 
 act-requires : tie.Need-act-requires
-act-requires c κs = (
-  c .before .before .before .before .before .before .next-record .ensures .1,
-  kept-few (c .before .before .before .before .before .before .before .before .before .before .before .before .before .before .before
-      .before .before .before .before .args .s .at) _ (c .before .before .before .before .before .before .before .before .flush .ensures),
-  c .before .before .before .before .before .before .before .before .before .before .before .before .before .before .before .before
-      .before .before .before .pre .1,
-)
+act-requires c κs =
+    let at-next-record = c .before .before .before .before .before .before in
+    let at-flush = at-next-record .before .before in
+    let start = at-flush .before .before .before .before .before .before .before .before .before .before .before in
+    (at-next-record .next-record .ensures .1, kept-few (start .args .s .at) _ (at-flush .flush .ensures), start .pre .1)
 
 same-length : tie.Need-same-length
-same-length c = c .before .before .before .before .before .before .before .before .before .before .before .before .before .before .before
-    .before .before .before .before .refill .kept .1 .0
+same-length c =
+    let at-act = c .before .before .before .before .before .before in
+    let at-input = at-act .before .before .before .before .before .before .before .before .before .before .before .before in
+    let at-refill = at-input .before in
+    at-refill .refill .kept .1 .0
 
 same-length-2 : tie.Need-same-length-2
 same-length-2 c = search needs
@@ -36,16 +37,14 @@ same-length-4 : tie.Need-same-length-4
 same-length-4 c = search needs
 
 returns : tie.Need-returns
-returns c = turned (c .before .before .before .before .before .before .before .before .before .before .before .before .before .before
-    .before .before .before .before .before .before .before .before .before .before .before .before .args .s) _ _ _ _ _ _ _ _ _
-    (c .before .before .before .before .before .before .before .before .before .before .before .before .before .before .before .before
-    .before .before .before .refill .ensures)
-    (c .before .before .before .before .before .before .before .before .before .before .before .before .before .before .before .before
-    .before .before .before .before .before .before .before .before .before .before .pre .3) _ _ _ _ _ _ _ _ _
-    (c .before .before .before .before .before .before .before .before .before .before .before .before .before .before
-    .before .flush .ensures)
-    (c .before .before .before .before .before .before .before .before .before .before .before .before .before .next-record .ensures .0)
-    (c .before .before .before .before .before .before .act .ensures)
+returns c =
+    let at-act = c .before .before .before .before .before .before in
+    let at-next-record = at-act .before .before .before .before .before .before .before in
+    let at-flush = at-next-record .before .before in
+    let at-refill = at-flush .before .before .before .before in
+    let start = at-refill .before .before .before .before .before .before .before in
+    turned (start .args .s) _ _ _ _ _ _ _ _ _ (at-refill .refill .ensures) (start .pre .3) _ _ _ _ _ _ _ _ _ (at-flush .flush .ensures)
+    (at-next-record .next-record .ensures .0) (at-act .act .ensures)
 
 pub take-turn-spec : {M : Type 1} → statement M
 take-turn-spec =

@@ -40,16 +40,16 @@ same-length c = search needs
 
 returns-3 : tie.Need-returns-3
 returns-3 c =
-    let a = c .before .before .before .before .before .before .before .before .before .before .before .args in
-    let x1 = c .before .before .before .before .before .before .shift .last .0 in
+    let at-shift = c .before .before .before .before .before .before in
+    let at-if2 = at-shift .before .before in
+    let at-if1 = at-if2 .before in
+    let start = at-if1 .before .before in
+    let a = start .args in
+    let x1 = at-shift .shift .last .0 in
     let ys = c .before .before .read-full .last .1 .0 in
-    refilled-read (a .wanted) (a .w) (a .buf .now) x1 ys (c .before .before .read-full .result)
-    (c .before .before .before .before .before .before .before .before .before .before .before .pre .1)
-    (c .before .before .before .before .before .before .before .before .before .before .before .pre .0)
-    (c .before .before .before .before .before .before .shift .ensures) (c .before .before .read-full .ensures .0)
-    (c .before .before .read-full .kept .1 .0) _ refl
-    (c .before .before .before .before .before .before .before .before .before .if1 .left)
-    (c .before .before .before .before .before .before .before .before .if2 .left)
+    refilled-read (a .wanted) (a .w) (a .buf .now) x1 ys (c .before .before .read-full .result) (start .pre .1) (start .pre .0)
+    (at-shift .shift .ensures) (c .before .before .read-full .ensures .0) (c .before .before .read-full .kept .1 .0) _ refl
+    (at-if1 .if1 .left) (at-if2 .if2 .left)
 
 pub refill-spec : {M : Type 1} → statement M
 refill-spec =
