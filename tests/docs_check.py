@@ -125,8 +125,6 @@ def promises(wrong):
     wrong += [f"docs/PROMISES.md: {n} is no public function" for n in rows]
 
 
-# what their owner has not made private yet
-LEFT = ("replay",)
 
 
 def used(wrong):
@@ -136,7 +134,7 @@ def used(wrong):
         text = path.read_text(encoding="utf-8")
         calls.setdefault(path.parts[-3], []).append((text, re.sub(r"^(?:use|pub use|ghost use|//).*$", "", text, flags=re.M)))
     for f in functions():
-        if f.exported or f.crate in LEFT:
+        if f.exported:
             continue
         path = re.compile(r"\b" + f.crate + r"::(?:\w+::)*" + f.name + r"\b")
         call = re.compile(r"\b" + f.name + r"\(")

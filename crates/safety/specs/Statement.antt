@@ -3,7 +3,6 @@
 -- reaches its undefined state. Each read burst lies in blocks owned by Linux, each store burst in blocks that are Linux data at that
 -- moment, and the controller changes only descriptor words the book holds as in use." This is the statement that is proved.
 --     Legal o, AllLegal os    an operation that can be asked for: addresses and values are 32-bit words, all else any number
---     blockOf x               the block of the byte at address x
 --     LiesIn side kinds at n  each of the n bytes from at on is in RAM, in a block of the table that permits the side:
 --                             Transmit, a block of Linux (kind not 0); Receive, Linux data (kind 1)
 --     InPlace kinds b         a burst: a read in blocks of Linux, a store in Linux data
@@ -18,13 +17,13 @@ use mathlib.Core.Logic.{_≢_}
 use mathlib.Core.Bool.{true, false}
 use mathlib.Core.List.{List, [], _∷_}
 use lib.ListN.{length, getD}
-use Rattle.layout.specs.Layout.{ramFirst, blockBytes}
+use Rattle.layout.specs.Layout.{ramFirst}
 use Rattle.layout.specs.declared.Side.{Side}
 use Rattle.layout.specs.declared.Side.the-variants.{Transmit, Receive}
 use Rattle.words.specs.Word.{word}
 use Rattle.words.specs.WordSet.{has}
 use Rattle.blocks.specs.Kinds.{fitKinds}
-use Rattle.blocks.specs.Room.{permits}
+use Rattle.blocks.specs.Room.{blockOf, permits}
 use Rattle.book.specs.World.{unfit, soundWorld}
 use Rattle.guard.specs.Answers.{numberOf}
 use Rattle.phases.specs.declared.Burst.{Burst}
@@ -41,9 +40,6 @@ Legal (step e) = Unit
 abbrev pub AllLegal : List Op → Type 0
 AllLegal [] = Unit
 AllLegal (o ∷ os) = Legal o × AllLegal os
-
-abbrev pub blockOf : ℕ → ℕ
-blockOf x = (x - ramFirst) / blockBytes
 
 abbrev pub LiesIn : Side → List ℕ → ℕ → ℕ → Type 0
 LiesIn side kinds at n =
