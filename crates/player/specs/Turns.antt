@@ -7,7 +7,7 @@
 --     Went, Begun              the run behind a record, and behind the first one
 --     Fresh m t u l            the tables of a fresh machine
 --     Acted, Turned            what was decoded is played, and one turn whole: where the run stood before, it stands after
---     Reached, Printed, Replayed   so it is after any number of turns, and for the whole input
+--     Reached, Printed, unread, Replayed   so it is after any number of turns, and for the whole input
 -- Laws: proofs/StandLaws.antt. Assumes nothing: these are definitions.
 use Prim.Native.Nat.{ℕ, _+_, _-_, _*_, _≤_, _<_, min}
 use mathlib.Core.Path.{_≡_}
@@ -123,7 +123,13 @@ pub record Printed (first : List ℕ) (r : Last) (y : List ℕ) : Type 0 where
   pub whole : length (first ++ got) < offsetEnd → (more : List ℕ) → MayCome (r .ended) more
       → replay ((first ++ got) ++ more) ≡ put ++ take (r .end) y
 
--- the first read put `first` there
-pub record Replayed (r : Last) (y : List ℕ) : Type 0 where
-  pub first : List ℕ
-  pub printed : Printed first r y
+-- nothing has been read yet, and the input has not ended
+abbrev pub unread : Window
+unread = record { from = 0; len = 0; ended = false }
+
+-- the first read filled the window from nothing, and all was replayed from there
+pub record Replayed (x : List ℕ) (r : Last) (y : List ℕ) : Type 0 where
+  pub window : Window
+  pub buffer : List ℕ
+  pub filled : Refilled recordMax unread x window buffer
+  pub printed : Printed (windowOf window buffer) r y

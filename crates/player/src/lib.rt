@@ -383,7 +383,7 @@ fn play_input(
 // the output for the lines gathered and those of a record.
 pub fn replay_file(fd: i32, to: i32, input: &mut [u8], out: &mut [u8]) -> Last
     requires { ⌜ (recordMax ≤ length (now input)) × (roomMin ≤ length (now out)) ⌝ }
-    ensures { λ r. ⌜ Replayed r (now (out .exit)) ⌝ }
+    ensures { λ r. ⌜ Replayed (now (input .entry)) r (now (out .exit)) ⌝ }
 {
     let mut m = descriptors();
     let mut kinds = kinds_table();

@@ -1,6 +1,7 @@
 -- How the definition of an `RM` record goes, by what is asked of it in turn. Assumes nothing.
---     ram-cut, ram-over, ram-short   mark and N are cut; N is over the limit; the kinds are cut
+--     ram-cut, ram-short    mark and N are cut; the kinds are cut
 --     ram-whole             all N kinds are there: it is a record exactly where there are some and each fits
+--     ram-over              N is over the limit
 use Prim.Native.Nat.{ℕ, _+_, _-_, _≤_, _<_}
 use mathlib.Core.Path.{_≡_, refl, ap, sym}
 use mathlib.Core.Bool.{Bool, true, false}
@@ -21,16 +22,6 @@ use Rattle.records.specs.Records.{ramMax, u16At, decodeRam}
 pub ram-cut : (bs : List ℕ) → length bs < 4 → decodeRam bs ≡ Bad
 unfolding decodeRam
 ram-cut bs h = rw (lt-leb 4 (length bs) h)
-
-both-no : (a b : Bool) → b ≡ false → both a b ≡ false
-both-no true b e = e
-both-no false b e = refl
-
-pub ram-over : (bs : List ℕ) (n : ℕ) → n ≡ u16At bs 2 → ramMax < n → Bad ≡ decodeRam bs
-unfolding decodeRam
-ram-over bs n e h =
-    let f = both-no (leb 1 (u16At bs 2)) (leb (u16At bs 2) ramMax) (lt-leb (u16At bs 2) ramMax (rw e at h)) in
-    rw (f, pick-same)
 
 pub ram-short : (bs : List ℕ) (n : ℕ) → n ≡ u16At bs 2 → length bs < 4 + n → Bad ≡ decodeRam bs
 unfolding decodeRam
@@ -66,3 +57,13 @@ pub ram-whole : (bs : List ℕ) (n : ℕ) (t : Bool) → n ≡ u16At bs 2 → n 
 ram-whole bs n t e g h f =
     let k : 4 + n - 4 ≡ n = omega arith in
     rw e (sym (ram-fits bs t (rw e at g) (rw e at h) (rw (k, e) at f)))
+
+both-no : (a b : Bool) → b ≡ false → both a b ≡ false
+both-no true b e = e
+both-no false b e = refl
+
+pub ram-over : (bs : List ℕ) (n : ℕ) → n ≡ u16At bs 2 → ramMax < n → Bad ≡ decodeRam bs
+unfolding decodeRam
+ram-over bs n e h =
+    let f = both-no (leb 1 (u16At bs 2)) (leb (u16At bs 2) ramMax) (lt-leb (u16At bs 2) ramMax (rw e at h)) in
+    rw (f, pick-same)

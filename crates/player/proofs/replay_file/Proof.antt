@@ -60,7 +60,15 @@ same-length-2 : tie.Need-same-length-2
 same-length-2 c = search needs
 
 returns : tie.Need-returns
-returns c = search needs
+returns c =
+    let at-play-input = c .before .before .before .before .before .before in
+    let at-refill = at-play-input .before .before .before .before .before .before .before .before .before .before in
+    record {
+      window = at-refill .refill .result;
+      buffer = at-refill .refill .last .1 .0;
+      filled = at-refill .refill .ensures;
+      printed = at-play-input .play-input .ensures;
+    }
 
 pub replay-file-spec : {M : Type 1} → statement M
 replay-file-spec =
