@@ -25,11 +25,19 @@ def texts(count):
     fail = sorted(TOP.glob("crates/*/must-fail/*.edit"))
     more = sorted(TOP.glob("tests/more-edits/*/*.edit"))
     definitions = sorted(TOP.glob("tests/definition-edits/*.edit"))
-    proofs, bare, lost, twice = [], [], [], []
+    proofs, bare, lost, twice, stale = [], [], [], [], []
     for path in fail + more + definitions:
         rule, changes, _ = edits.read_edit(path)
         name = str(path.relative_to(TOP))
-        for file, _, _ in changes:
+        crate = "" if path in definitions else path.parent.parent.name if path in fail else path.parent.name
+        changed = {}
+        for file, old, new in changes:
+            # changes of one edit are made one after the other
+            source = TOP / "crates" / crate / file
+            text = changed.get(file) or (source.read_text(encoding="utf-8") if source.is_file() else "")
+            if text.count(old) != 1:
+                stale.append("%s: the line to change stands %d times in %s" % (name, text.count(old), file))
+            changed[file] = text.replace(old, new, 1)
             # below a crate, or below crates/ in definition-edits
             part = file.split("/")[1 if path in definitions else 0]
             if part not in ("src", "specs"):
@@ -54,6 +62,7 @@ def texts(count):
     report(count, "an edit changes src/ or specs/, never a proof (%d edits)" % len(fail + more + definitions), proofs)
     report(count, "an edit quotes its rule and changes something", bare)
     report(count, "an edit is tried, and once", lost + twice)
+    report(count, "the line that an edit changes stands once in its file", stale)
     report(count, "a crate with public functions has a must-fail edit", without)
 
 

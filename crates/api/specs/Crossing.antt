@@ -1,6 +1,6 @@
 -- A guard call as a caller in C sees it: arrays in, a number and arrays out.
---     answerWord a                an answer in one number: its number, 256 times its effect, 65,536 times its side, 16,777,216 times its
---                                 channel
+--     answerWord a            an answer in one number: its number, 256 times its effect, 65,536 times its side, 16,777,216 times its
+--                             channel
 --     Crosses o n m k t u l   a call's number and the arrays it leaves are those of the outcome o: the promise of every call
 -- Document 01, "Answers by number". Assumes nothing: these are definitions.
 use Prim.Native.Nat.{ℕ, _+_, _*_}

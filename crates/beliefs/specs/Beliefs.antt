@@ -19,6 +19,7 @@ use Rattle.descriptor.specs.Fields.{owner, lengthOf}
 use Rattle.registers.specs.Table.{headOf, hdpOf, cpOf, tearingOf, setTearing}
 use Rattle.book.specs.Release.{releasedFlags}
 use Rattle.guard.specs.Answers.{numberOf}
+use Rattle.guard.specs.Rulings.{cpAddress}
 use Rattle.phases.specs.declared.Sending.the-variants as S
 use Rattle.controller.specs.Controller.{txOf}
 use Rattle.phases.specs.declared.Engine.the-variants.{Transmit, Receive, TearTransmit}
@@ -26,7 +27,7 @@ use Rattle.layout.specs.declared.Side.the-variants as Side
 use Rattle.guard.specs.declared.Answer.the-variants.{Accepted}
 use Rattle.guard.specs.declared.Effect.the-variants.{Appended}
 use Rattle.machine.specs.Machine.{Machine, Op, write, kind, frame, step, worldOf, apply, runOps}
-use Rattle.cases.specs.Scene.{cpAddr, txHdp, rxHdp, ready, desc}
+use Rattle.cases.specs.Scene.{txHdp, rxHdp, ready, desc}
 
 abbrev pub times : ℕ → Op → List Op
 times zero o = []
@@ -99,7 +100,7 @@ pub record LateAppend : Type 0 where
 -- ---- the code of a teardown: the one before may have left it
 
 abbrev pub txCp : ℕ
-txCp = cpAddr 0
+txCp = cpAddress 0
 
 abbrev pub txTeardown : ℕ
 txTeardown = 0x4A10_0808

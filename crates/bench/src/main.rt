@@ -1,5 +1,6 @@
-// The bench: reads records from standard input, plays them on a fresh machine, and prints their lines, as document 01, "The bench", has it.
-// The input is read in large pieces, and before each record the buffer holds all of it; the lines are gathered and written in pieces too.
+// The bench: standard input is replayed to standard output, as document 01, "The bench", has it. The program lends two buffers; what is
+// read
+// and written is the crate `player`, and so is what is promised.
 
 use libc::STDIN_FILENO;
 use libc::STDOUT_FILENO;

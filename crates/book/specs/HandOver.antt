@@ -2,7 +2,7 @@
 -- whole chain. Document 01, "Once accepted: a start sets .. the book's head, words and lengths. .. An append .. adds words
 -- and lengths", "what goes is out of use with recorded length 0".
 --     Uses                      words in use, recorded lengths
---     recordedLength side x2          what is recorded for a descriptor: a receive length as handed over, else 0
+--     recordedLength side x2    what is recorded for a descriptor: a receive length as handed over, else 0
 --     takeOne, dropOne          one descriptor in use, out of use
 --     takenFrom w side u p      every descriptor from p on taken
 -- Laws: proofs/HandOverLaws.antt. Assumes nothing: these are definitions.

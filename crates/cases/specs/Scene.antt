@@ -1,5 +1,5 @@
 -- A machine as "Both sides of each line" has it: "Kinds 0,1,2,3, initialised". Assumes nothing: these are definitions.
---     hdpAddr, cpAddr q the addresses of HDP and CP of queue q; txHdp, rxHdp are those of TX0_HDP and RX0_HDP
+--     hdpAddr q         the address of HDP of queue q; txHdp, rxHdp are those of TX0_HDP and RX0_HDP
 --     ready             a fresh machine after a zero to each register that awaits one, each a whole guest write
 --     desc d x0 .. x3   the four guest writes that lay out a descriptor at word d
 --     answered os a v   the number given to the write of v to a, after the operations os from `ready`
@@ -7,13 +7,11 @@ use Prim.Native.Nat.{ℕ, zero, suc, _+_, _*_, _%_}
 use mathlib.Core.List.{List, [], _∷_, _++_}
 use Rattle.layout.specs.Layout.{addr, queues, channelOf}
 use Rattle.guard.specs.Answers.{numberOf}
+use Rattle.guard.specs.Rulings.{cpAddress}
 use Rattle.machine.specs.Machine.{Machine, Op, write, apply, runOps, freshMachine}
 
 abbrev pub hdpAddr : ℕ → ℕ
 hdpAddr q = 0x4A10_0A00 + 32 * (q % 2) + 4 * channelOf q
-
-abbrev pub cpAddr : ℕ → ℕ
-cpAddr q = hdpAddr q + 64
 
 abbrev pub txHdp : ℕ
 txHdp = hdpAddr 0
@@ -24,7 +22,7 @@ rxHdp = hdpAddr 1
 -- of the first n queues
 abbrev pub zeros : ℕ → List Op
 zeros zero = []
-zeros (suc q) = zeros q ++ write (hdpAddr q) 0 ∷ write (cpAddr q) 0 ∷ []
+zeros (suc q) = zeros q ++ write (hdpAddr q) 0 ∷ write (cpAddress q) 0 ∷ []
 
 unfoldable pub ready : Machine
 ready = runOps (zeros queues) (freshMachine (0 ∷ 1 ∷ 2 ∷ 3 ∷ []))

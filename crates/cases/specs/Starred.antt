@@ -1,6 +1,6 @@
 -- The starred cases of document 01, "Both sides of each line": one fact for each starred half line, through the whole guest write, on a
 -- machine that was initialised by guest writes. Also here: "One packet of 60 + 40 bytes takes 9" steps, and the answers of the bench's
--- example.
+-- example, which is that of the paper.
 --     rxOne, txOne, rxChain    the number given to the start of a receive buffer, of a transmit packet, of a chain of two
 --     txTwo, sending, hdpAfter a packet of two buffers; the machine n transmit steps after its start; what its HDP reads then
 --     Starred                  the table

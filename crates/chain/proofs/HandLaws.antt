@@ -42,7 +42,7 @@ use Rattle.chain.specs.declared.ReceiveHand.the-variants as receive
 use Rattle.chain.specs.declared.Verdict.{Verdict}
 use Rattle.chain.specs.declared.Verdict.the-variants.{Good, Bad}
 use Rattle.chain.specs.Chain.{blockFault, descFault, JSt, JOut, pastDesc, judgeStep, chainOf, placeOf, bufferRoom, said, verdictOf}
-use Rattle.chain.specs.Hands.{packed, unpacked, faultAt, Measured, endsAt, transmitPast, transmitStep, receiveStep}
+use Rattle.chain.specs.Hands.{packed, unpacked, faultAt, Measured, single, transmitPast, transmitStep, receiveStep}
 use Rattle.chain.proofs.ChainLaws.{faultAt-step, faultAt-16, judgeStep-falls, chain-eq, chain-place}
 
 -- ---- a descriptor by its four words
@@ -170,8 +170,8 @@ module _ (kinds : List ℕ) (w : ℕ → ℕ) (side : Side) (n p : ℕ) where
   said-barred room b e = rw (← e, b) refl
 
 -- a chain of one descriptor: its fault is the chain's
-pub ends-good : (w : ℕ → ℕ) (p : ℕ) → endsAt w p ≡ true → goodPtr p ≡ true
-unfolding endsAt
+pub ends-good : (w : ℕ → ℕ) (p : ℕ) → single w p ≡ true → goodPtr p ≡ true
+unfolding single
 ends-good w p e = both-left (goodPtr p) (eqb (w (wordOf p)) 0) e
 
 module _ (kinds : List ℕ) (w : ℕ → ℕ) (side : Side) (met : List ℕ) (p n : ℕ) (pl : Place) (at : pl ≡ placeOf side)
@@ -182,9 +182,9 @@ module _ (kinds : List ℕ) (w : ℕ → ℕ) (side : Side) (met : List ℕ) (p 
   pub single-16 : n ≡ 16 → Measured w side p
   single-16 z = rw (placeOf-side side) at (faultAt-16 kinds w (placeOf side) met p (sym fault-is ∙ z))
 
-  one-step : endsAt w p ≡ true
+  one-step : single w p ≡ true
       → chainOf kinds w (placeOf side) met p ≡ pick {A = JOut} (eqb n 0) (0, 0, addFour met (wordOf p)) (n, p, met)
-  unfolding endsAt
+  unfolding single
   one-step e =
       let z = both-right (goodPtr p) (eqb (w (wordOf p)) 0) e in
       chain-eq kinds w (placeOf side) met p
@@ -197,7 +197,7 @@ module _ (kinds : List ℕ) (w : ℕ → ℕ) (side : Side) (met : List ℕ) (p 
       by true = refl
       by false = refl
 
-  pub verdict-single : endsAt w p ≡ true → (r : Verdict) → r ≡ said kinds w side (n, p, []) → r ≡ verdictOf side kinds w met p .0
+  pub verdict-single : single w p ≡ true → (r : Verdict) → r ≡ said kinds w side (n, p, []) → r ≡ verdictOf side kinds w met p .0
   unfolding verdictOf
   verdict-single e r q = q ∙ sym (ap (λ (j : JOut). said kinds w side j) (one-step e) ∙ by (eqb n 0) refl)
     where

@@ -3,7 +3,7 @@
 --     unpacked v met    the chain's answer in such a number, and the words met
 --     faultAt           12, 13 and the rest of the descriptor that a pointer names
 --     Measured w side p the descriptor that pointer p names has its length in order
---     endsAt w p        pointer p names a descriptor, and a chain ends behind it
+--     single w p        pointer p names a descriptor, and a chain ends behind it
 --     transmitPast      what follows a transmit descriptor without fault
 --     transmitStep, receiveStep   what a leaf hands to its rule, as a step of the judge
 -- Assumes nothing: these are definitions.
@@ -42,8 +42,8 @@ abbrev pub Measured : (ℕ → ℕ) → Side → ℕ → Type 0
 Measured w side p =
     (goodPtr p ≡ true) × (lengthFault side (w (wordOf p + 1)) (w (wordOf p + 2)) (w (wordOf p + 3)) ≡ 0)
 
-unfoldable pub endsAt : (ℕ → ℕ) → ℕ → Bool
-endsAt w p = both (goodPtr p) (eqb (w (wordOf p)) 0)
+unfoldable pub single : (ℕ → ℕ) → ℕ → Bool
+single w p = both (goodPtr p) (eqb (w (wordOf p)) 0)
 
 unfoldable pub transmitPast : Place → ℕ → ℕ → ℕ → TransmitHand
 transmitPast pl x0 x2 x3 =

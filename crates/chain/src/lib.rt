@@ -1,7 +1,8 @@
 // The chain check: the rules 12 to 17 along a chain of descriptors.
 // Promises: a chain is called good exactly where document 01 accepts it. Otherwise the answer has the number and the place of the
 // first faulty descriptor and, with 16, the block that bars its buffer. Either way the words met grow by those of the descriptors
-// before the fault. Document 01, "Judging" and "Answers by number".
+// before the fault. A chain of one descriptor has a way of its own, which asks the words in use and makes no set of words met.
+// Document 01, "Judging" and "Answers by number".
 // The start of a packet has one rule and its middle another, each handing on to the other. What they hand on is thin and what they
 // answer is a number, so that the call of a rule by a rule is compiled to a jump and no chain makes the stack grow.
 
@@ -26,7 +27,7 @@ ghost use Rattle.blocks.specs.Room.{roomOf};
 ghost use Rattle.descriptor.specs.Fields.{lengthOf, firstByte};
 ghost use Rattle.descriptor.specs.Rules.{lengthFault};
 ghost use Rattle.chain.specs.Chain.{blockFault, descFault, judgeStep, chainOf, placeOf, said, verdictOf};
-ghost use Rattle.chain.specs.Hands.{packed, unpacked, faultAt, Measured, endsAt, transmitPast, transmitStep, receiveStep};
+ghost use Rattle.chain.specs.Hands.{packed, unpacked, faultAt, Measured, single, transmitPast, transmitStep, receiveStep};
 
 // A refusal number and its place travel as one number, with the refusal number in the low byte.
 const LOW_BYTE: u64 = 256;
@@ -315,7 +316,7 @@ fn fault_in_use(m: &[u8], kinds: &[u8], used: &Words, pl: Place, at: u32) -> u8
 // Whether the chain from at is one descriptor, as most are that a driver hands over.
 pub fn is_single(m: &[u8], at: u32) -> bool
     requires { ⌜ length (now m) ≡ descBytes ⌝ }
-    ensures { λ r. ⌜ r ≡ endsAt (word (now (m .entry))) at ⌝ }
+    ensures { λ r. ⌜ r ≡ single (word (now (m .entry))) at ⌝ }
 {
     if !layout::is_good(at) {
         return false;
@@ -325,7 +326,7 @@ pub fn is_single(m: &[u8], at: u32) -> bool
 
 // What is said of such a chain. It meets no word twice, and no set of words met is made.
 pub fn check_single(side: Side, m: &[u8], kinds: &[u8], used: &Words, at: u32) -> Verdict
-    requires { ⌜ (length (now m) ≡ descBytes) × (endsAt (word (now m)) at ≡ true) ⌝ }
+    requires { ⌜ (length (now m) ≡ descBytes) × (single (word (now m)) at ≡ true) ⌝ }
     ensures { λ r. ⌜ r ≡ verdictOf side (now (kinds .entry)) (word (now (m .entry))) (now (used .entry)) at .0 ⌝ }
 {
     let number = fault_in_use(m, kinds, used, first_place(side), at);

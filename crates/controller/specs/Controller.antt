@@ -1,11 +1,11 @@
 -- The controller record and every way it changes. Document 01, "The controller's steps".
 --     txOf, rxOf c ch              the phases of a channel
 --     stageOf c q                  which teardown step of a queue comes next
---     StepDone                        the record and descriptor memory afterwards, the burst made, the answer
+--     StepDone                     the record and descriptor memory afterwards, the burst made, the answer
 --     outcome r m                  the same, of what a step handed back and the memory that it left
 --     answer, undefine             nothing but an answer; undefined now and later (22)
 --     transmitStep, receiveStep ch one step of an engine
---     quietEngine c q                    engine q is "idle, waiting or, transmit only, at 1 of a new packet"
+--     quietEngine c q              engine q is "idle, waiting or, transmit only, at 1 of a new packet"
 --     tearStep q                   teardown steps 1 to 3 of a queue
 --     resetStep                    the reset
 --     moveOf e, stepOf e           the step of any engine; the same, where memory and record allow one

@@ -1,5 +1,5 @@
-// Named changes of the controller record, and what its flags and phases say. A queue has the number that `queue_of` gives its side and
-// channel.
+// Named changes of the controller record, and what its flags and phases say.
+// A queue has the number that `queue_of` gives its side and channel.
 
 use crate::Channel;
 use crate::Controller;
@@ -214,13 +214,13 @@ fn is_quiet_channel(all: [Channel; CHANNELS], ch: usize) -> bool
 pub fn are_all_quiet(all: [Channel; CHANNELS]) -> bool
     ensures { λ r. ⌜ r ≡ allQuiet all ⌝ }
 {
-    let mut quietEngine = true;
+    let mut quiet = true;
     let mut ch: usize = 0;
     while ch < CHANNELS {
-        quietEngine = are_both(quietEngine, is_quiet_channel(all, ch));
+        quiet = are_both(quiet, is_quiet_channel(all, ch));
         ch += 1;
     }
-    quietEngine
+    quiet
 }
 
 // Every engine idle.

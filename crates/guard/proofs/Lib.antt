@@ -2,5 +2,5 @@ pub mod JudgeLaws
 pub mod ChainLaws
 pub mod GivesLaws
 pub mod ClassLaws
-pub mod CommonLaws
+pub mod AckLaws
 pub mod Settled

@@ -1,5 +1,5 @@
--- The judges in the parts that the functions have. Each is a piece of a definition of Judges.antt; the laws that put them together are in
--- proofs/RulingLaws.antt.
+-- The judges in the parts that the functions have. Each is a piece of a definition of Judges.antt;
+-- the laws that put them together are in proofs/ChainLaws.antt, GivesLaws.antt and AckLaws.antt.
 --     handedOver, appended   a chain that is judged and, without fault, taken; and its address stored in word k
 --     ruled k t′ t           a register judge that found the fault k, or changed the table t to t′
 --     freeWord a u           a is the address of a descriptor word that is not in use

@@ -552,9 +552,9 @@ fn is_plain_store(a: u32, m: &[u8], t: &State, used: &Words) -> bool
     is_quiet(m, t)
 }
 
-// A guest write on a state that is known to be fit and sound: what a caller has who started fresh and changed the book through the
-// guard alone. It costs what the write itself needs; a store to a free word and an acknowledgement, which most writes of a driver are,
-// are done here.
+// A guest write on a state that is known to be fit and sound: what a caller has who started fresh and changed the book through the guard
+// alone. It costs what the write itself needs;
+// a store to a free word and an acknowledgement, which most writes of a driver are, are done here.
 pub fn guest_write_sound(
     a: u32,
     v: u32,

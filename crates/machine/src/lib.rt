@@ -1,10 +1,8 @@
 // The machine: guard and controller over one descriptor memory, one operation at a time.
 // Promises: a guest write, a kind change, a frame and a step of an engine leave exactly the controller, the guard's small state with its
-// words
-// in use and lengths, the descriptor memory and the kinds that the definitions `applyWrite`, `applyKind`, `applyFrame` and `applyStep`
-// give, with
-// their answer and burst. Before a guard call the registers in its small state are read from the controller; an accepted write reaches the
-// controller as a write that no guard has judged; frames and steps leave the guard's part alone.
+// words in use and lengths, the descriptor memory and the kinds that the definitions `applyWrite`, `applyKind`, `applyFrame` and
+// `applyStep` give, with their answer and burst. Before a guard call the registers in its small state are read from the controller; an
+// accepted write reaches the controller as a write that no guard has judged; frames and steps leave the guard's part alone.
 // Document 01, "Answers by number", "The controller's steps".
 
 use controller::Controller;

@@ -1,9 +1,7 @@
 // The phases of the two engines: what each phase holds, and its step.
 // Promises: a step hands back exactly the next phase, HDP and CP, the burst made and the octets of a packet just done, and leaves exactly
-// the
-// descriptor memory, that document 01, "The controller's steps", gives for the numbered items of Transmit and Receive. A phase unfit for
-// its
-// step is told so, and the memory stays as it was.
+// the descriptor memory, that document 01, "The controller's steps", gives for the numbered items of Transmit and Receive.
+// A phase unfit for its step is told so, and the memory stays as it was.
 // Knows neither the controller's record nor queues by number: HDP and CP come in and go out as numbers, and of what is pending it hears
 // only whether a new packet is held back.
 

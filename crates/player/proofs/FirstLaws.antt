@@ -19,7 +19,6 @@ use borrow.Author.Tests.{leb-true}
 use Rattle.layout.specs.Choice.{pick, both}
 use Rattle.layout.proofs.ChoiceLaws.{both-left, both-right, clash}
 use Rattle.blocks.specs.Kinds.{allKinds}
-use Rattle.words.specs.WordSet.{emptySet}
 use Rattle.controller.specs.declared.Controller.{Controller}
 use Rattle.controller.specs.Controller.{freshController}
 use Rattle.machine.specs.Machine.{Machine, freshMachine}
@@ -186,7 +185,7 @@ begun-holds w n s x y h g b = record {
 
 fresh-is : (c : Controller) (m k t u l ks : List ℕ) → c ≡ freshController → k ≡ ks → Fresh m t u l → machineAt c m k t u l
     ≡ freshMachine ks
-unfolding freshMachine emptySet
+unfolding freshMachine
 fresh-is c m k t u l ks e f g = λ i. machineAt (e i) (g .mem i) (f i) (g .state i) (g .used i) (g .lens i)
 
 module _ (w : Window) (x : List ℕ) (h : Enough (windowOf w x) (w .ended)) (n : ℕ)

@@ -16,8 +16,8 @@ use mathlib.Core.List.{List, [], _++_}
 use lib.ListN.{length, take, replicate}
 use lib.Dec.{leb}
 use Rattle.layout.specs.Choice.{pick}
-use Rattle.layout.specs.Layout.{descBytes, descWords}
-use Rattle.registers.specs.Table.{stateWords}
+use Rattle.layout.specs.Layout.{descBytes}
+use Rattle.book.specs.World.{freshState, freshUsed, freshLens}
 use Rattle.controller.specs.declared.Controller.{Controller}
 use Rattle.controller.specs.Controller.{freshController}
 use Rattle.records.specs.declared.Record.{Record}
@@ -85,9 +85,9 @@ pub record Begun (w : Window) (n : ℕ) (r : Run) : Type 0 where
 -- "A fresh machine has zero descriptor memory and registers, empty queues"
 pub record Fresh (m t u l : List ℕ) : Type 0 where
   pub mem : m ≡ replicate descBytes 0
-  pub state : t ≡ replicate stateWords 0
-  pub used : u ≡ replicate descWords 0
-  pub lens : l ≡ replicate descWords 0
+  pub state : t ≡ freshState
+  pub used : u ≡ freshUsed
+  pub lens : l ≡ freshLens
 
 -- d was decoded from the window w of any buffer that decides it; no byte is read, and none is handed to the write before the run is over
 pub record Acted (d : Decoded) (w : Window) (c : Controller) (at o : ℕ) (m k t u l y : List ℕ) (r : Run)

@@ -1,7 +1,7 @@
 // A bench file replayed from any descriptor to any other: what is read is decoded and played record by record, and its lines are written.
 // Promises: over all bytes read so far, the bytes handed to the write and those gathered are what `replay` prints up to there; a fresh
-// machine with the first record's kinds stands at the beginning; the last line is `replay`'s. What the kit's own read and write do is not
-// promised.
+// machine with the first record's kinds stands at the beginning; the last line is `replay`'s.
+// What the kit's own read and write do is not promised.
 // Document 01, "The bench".
 
 use controller::Controller;

@@ -1,7 +1,7 @@
 // The bench's two ends: the records that it reads, and the lines that it prints.
 // Promises: bytes are taken for a record exactly where document 01 has one, with its size; an unknown, cut or unfit record is called bad.
-// A line is stored in a lent buffer at a place that has room for it, byte for byte as document 01 has it, and nothing else of the buffer
-// changes.
+// A line is stored in a lent buffer at a place that has room for it, byte for byte as document 01 has it,
+// and nothing else of the buffer changes.
 // Document 01, "The bench".
 
 use blocks::kinds_fit;

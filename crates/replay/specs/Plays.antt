@@ -1,6 +1,6 @@
 -- What an operation and a record hand back and leave, held to what the machine does and to the lines that are printed for it.
 --     Tells p h m k t u l          what happened: one event and the controller h, and the tables m k t u l
---     MovesOn f c m h m′             the same of a result of the controller alone, whatever kinds, small state, words in use and lengths
+--     MovesOn f c m h m′           the same of a result of the controller alone, whatever kinds, small state, words in use and lengths
 --                                  there are
 --     Shows h r x at y             how it is printed: the event's line in the buffer x, that became y from `at` on
 --     Plays p r m k t u l x at y   a record: controller and end r, the tables m k t u l, and all its lines in the buffer

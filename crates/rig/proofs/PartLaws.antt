@@ -1,5 +1,5 @@
--- Channels read from their rows and put into them, one after the other; and what a call leaves, from what the controller's own promise
--- says.
+-- Channels read from their rows and put into them, one after the other;
+-- and what a call leaves, from what the controller's own promise says.
 -- Assumes nothing.
 --     channels-next, channels-last      one more channel is read, and the last
 --     tx-next, tx-last, rx-next, rx-last   one more row is saved, and the last

@@ -1,5 +1,5 @@
--- What a guard call hands back, the machine then has: registers, flags and descriptor memory, whether the call accepts or refuses.
--- Assumes nothing.
+-- What a guard call hands back, the machine then has:
+-- registers, flags and descriptor memory, whether the call accepts or refuses. Assumes nothing.
 --     device-bounds          which words can be the device's registers
 --     loaded-alike           registers of a table that is alike are those that stand there already
 --     world-handed           a machine made of the outcome's world, and of a controller that is alike

@@ -1,6 +1,5 @@
--- A kind change keeps the invariant: "18, 19, 20, then 21 if the new kind is not 1 and a receive buffer in the book, at its
--- handed-over length, touches the block". Ownership never changes, so that what was judged for transmission stays so.
--- Assumes nothing.
+-- A kind change keeps the invariant: "18, 19, 20, then 21 if the new kind is not 1 and a receive buffer in the book, at its handed-over
+-- length, touches the block". Ownership never changes, so that what was judged for transmission stays so. Assumes nothing.
 --     sendable-kind, serves-kind   a block that stays Linux's changes its kind: what is to be sent, and an engine's clause
 --     Changed b k s            what an accepted kind change has asked
 --     KindOutcome, judgeKind-changed   and it has; the world that it leaves

@@ -1,5 +1,5 @@
--- A step of queue q leaves every word of every other queue: an engine, or its teardown, marks at most one descriptor of its own queue.
--- Assumes nothing.
+-- A step of queue q leaves every word of every other queue:
+-- an engine, or its teardown, marks at most one descriptor of its own queue. Assumes nothing.
 --     Own s i q m             m is the machine's memory, but for words 2 and 3 of at most one descriptor of what is left of queue q
 --     own-leaves              so every word of every other queue is as it was
 --     named                   a mark at a pointer that names such a descriptor

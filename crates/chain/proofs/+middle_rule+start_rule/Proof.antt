@@ -1,5 +1,5 @@
--- `chain::start_rule` and `chain::middle_rule` call each other along the transmit chain; the words not yet met fall at each call. Assumes
--- nothing.
+-- `chain::start_rule` and `chain::middle_rule` call each other along the transmit chain; the words not yet met fall at each call.
+-- Assumes nothing.
 use borrow.Author.Needs.{needs}
 use mathlib.Core.Path.{refl, _∙_}
 use Rattle.words.specs.WordSet.{view, freeCount}

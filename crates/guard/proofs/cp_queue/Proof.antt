@@ -1,7 +1,7 @@
 -- `guard::cp_queue`: side and channel by the offset. Assumes nothing.
 use native.Mathlib.Omega.{arith}
 use borrow.Author.Needs.{needs}
-use Rattle.guard.proofs.CommonLaws.{cp-at}
+use Rattle.guard.proofs.AckLaws.{cp-at}
 use Rattle.guard.proofs.cp_queue.Statement.{statement}
 use Rattle.guard.proofs.cp_queue.Tie as tie
 

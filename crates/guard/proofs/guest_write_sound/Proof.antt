@@ -1,5 +1,5 @@
--- `guard::guest_write_sound`: the state is fit and sound, so the release and the judge are all; a store to a free word needs no release.
--- Assumes nothing.
+-- `guard::guest_write_sound`: the state is fit and sound, so the release and the judge are all;
+-- a store to a free word needs no release. Assumes nothing.
 use mathlib.Core.Path.{_≡_}
 use mathlib.Core.Bool.{true}
 use native.Mathlib.Omega.{arith}
@@ -7,7 +7,7 @@ use borrow.Author.Needs.{needs}
 use Rattle.layout.specs.Layout.{inDescriptors}
 use Rattle.layout.proofs.PointerLaws.{inDescriptors-bounds}
 use Rattle.guard.proofs.GivesLaws.{fit-size, write-sound, store-word, store-sound}
-use Rattle.guard.proofs.CommonLaws.{ack-sound}
+use Rattle.guard.proofs.AckLaws.{ack-sound}
 use Rattle.guard.proofs.guest_write_sound.Statement.{statement}
 use Rattle.guard.proofs.guest_write_sound.Tie as tie
 

@@ -2,7 +2,7 @@
 use native.Mathlib.Omega.{arith}
 use borrow.Author.Needs.{needs}
 use Rattle.layout.proofs.ChoiceLaws.{yes-of}
-use Rattle.guard.proofs.CommonLaws.{cp-is}
+use Rattle.guard.proofs.AckLaws.{cp-is}
 use Rattle.guard.proofs.quiet_cp.Statement.{statement}
 use Rattle.guard.proofs.quiet_cp.Tie as tie
 

@@ -1,7 +1,6 @@
 -- `host::hosted_frame` meets its contract: a walk of its MIR, by hand. The record is put into a local, which is lent by `&mut` for a
 -- lifetime that the walk makes, and taken back at the last value that `take_frame` says.
--- All that the proof knows of `take_frame` is that it meets its contract. No line names a field of the record.
--- Assumes nothing.
+-- All that the proof knows of `take_frame` is that it meets its contract. No line names a field of the record. Assumes nothing.
 use mathlib.Core.Path.{_≡_, refl, ap, subst}
 use Prim.Native.Nat.{ℕ, _<_, _^_}
 use mathlib.Core.List.{[], _∷_, List}
@@ -134,8 +133,8 @@ module _ {M : Type 1} (𝓤 : URA M) (H : Heap 𝓤) (A : Atoms 𝓤) (W : Given
         use1 W (later (some (λ (δ : GName). ‵ (MutRef (named 0) (ν ∷ []) T.the-row .own (lent-at l₃ δ) (vptr l₃ 0 ∷ [])) ⊛ ‵
         (flent (ν ∷ []) (Body (mem T.the-row) l₃ 0 δ))))) (lends-ref 𝓤 H A W T.the-row (named 0) (ν ∷ []) h l₃ 0) $ await ! tt $
         pick ! (λ δ. split ! $
-        -- [the reference; the lender's part; the new token; _6; …; _5; …; _4; …; what frees _3; _2; …; _1; …; room for _0; …; the token;
-        -- what c and n own]
+        -- [the reference; the lender's part; the new token; _6; …; _5; …; _4; …; what frees _3; _2; …; _1; …; room for _0; …;
+        -- the token; what c and n own]
         move ! (2 ∷ 16 ∷ 0 ∷ []) $ join ! $ use2 W (raw (Takes 𝓤 H A at-mem run .pre (to-frame l₃ ν δ))) (goes l₃ ν δ) $
         calls-at ! fm (Takes 𝓤 H A at-mem run) known (to-frame l₃ ν δ)
         (and-then ! (load ! (from ! (stop !)) (look ! 4 refl)) (and-then ! (load ! (from ! (stop !)) (look ! 9 refl)) (no-more !)))
@@ -149,8 +148,8 @@ module _ {M : Type 1} (𝓤 : URA M) (H : Heap 𝓤) (A : Atoms 𝓤) (W : Given
         (fact 𝓤 (Ensures h n r (zs .0))))) (id⊢ 𝓤 _) $ pick ! (λ zs.
         split ! $ move ! (1 ∷ []) $ heard ! (Ensures h n r (zs .0)) (λ e. fsplit ! $
         move ! (2 ∷ []) $ split ! $ move ! (1 ∷ []) $ peeks ! u8 (Is u8) (shows 𝓤 H A u8) r (w ∷ []) (λ is.
-        -- [what the number owns; the tokens; the last record; …; the lender's part; _6; …; _5; …; _4; …; what frees _3; _2; …; _1; …; room
-        -- for _0; …; …]
+        -- [what the number owns; the tokens; the last record; …; the lender's part; _6; …; _5; …; _4; …; what frees _3; _2; …; _1;
+        -- …; room for _0; …; …]
         land ! (from ! (stop !)) (init ! 9 refl (uint-lawful 𝓤 H A W w8 .typed r _ is .0)) $
         rewrite ! 9 (λ (v : Val). ‵ (fat fullShare (tyInt w8) l₄ 0 v)) (ap only (uint-tells w8 r _ is)) refl $
         -- the lifetime is ended, and the local is taken back at the last record

@@ -1,7 +1,6 @@
--- `host::lend_step` meets its contract: a walk of its MIR, by hand. The record is put into a local, which is lent by `&mut` for a lifetime
--- that the walk makes, and taken back at the last value that `step_engine` says; the slice goes to the callee for good.
--- All that the proof knows of `step_engine` is that it meets its contract. No line names a field of the record or a variant.
--- Assumes nothing.
+-- `host::lend_step` meets its contract: a walk of its MIR, by hand. The record is put into a local, which is lent by `&mut` for a
+-- lifetime that the walk makes, and taken back at the last value that `step_engine` says; the slice goes to the callee for good. All that
+-- the proof knows of `step_engine` is that it meets its contract. No line names a field of the record or a variant. Assumes nothing.
 use mathlib.Core.Path.{_≡_, refl, ap, subst}
 use Prim.Native.Nat.{ℕ}
 use mathlib.Core.List.{[], _∷_, List}

@@ -1,7 +1,6 @@
--- `host::step_engine` meets its contract: a walk of its MIR, by hand. The record's borrow is opened, the record is read whole, the step by
--- value is called with the slice, its record is stored, and the borrow is closed at that record.
--- All that the proof knows of `turn_by` is that it meets its contract. No line names a field of the record or a variant.
--- Assumes nothing.
+-- `host::step_engine` meets its contract: a walk of its MIR, by hand. The record's borrow is opened, the record is read whole, the step
+-- by value is called with the slice, its record is stored, and the borrow is closed at that record. All that the proof knows of `turn_by`
+-- is that it meets its contract. No line names a field of the record or a variant. Assumes nothing.
 use mathlib.Core.Path.{_≡_, refl, ap}
 use Prim.Native.Nat.{ℕ}
 use mathlib.Core.List.{[], _∷_, List}
@@ -145,8 +144,8 @@ module _ {M : Type 1} (𝓤 : URA M) (H : Heap 𝓤) (A : Atoms 𝓤) (W : Given
         (λ l₁. alloc1 ! (λ l₂. alloc1 ! (λ l₃. alloc1 ! (λ l₄. alloc1 ! (λ l₅. alloc1 ! (λ l₆. alloc1 ! (λ l₇. alloc0 ! $ params1 ! $
         pass1 ! (init ! 12 refl (tt, tt)) $ pass1 ! (init ! 10 refl (tt, (tt, (record { fits = room .0 }, tt)))) $
         pass1 ! (init ! 8 refl (LE.lawful E.the-type E′.the-laws 𝓤 H A W tt .typed u _ u-is .0)) $ pass0 ! $
-        -- [_7; …; _6; …; _5; …; _4; …; _3; …; _2; …; _1; …; room for _0; …; the tokens; what c, mem and e own]: the record's borrow is
-        -- opened
+        -- [_7; …; _6; …; _5; …; _4; …; _3; …; _2; …; _1; …; room for _0; …; the tokens; what c, mem and e own]:
+        -- the record's borrow is opened
         move ! (17 ∷ []) $ fsplit ! $ fsplit3 ! $ drop ! $ move ! (19 ∷ []) $ split ! $ move ! (2 ∷ 3 ∷ 0 ∷ []) $
         opens ! tt T.the-row {h = h} b o
         (λ vs. spelt ! T.the-row (Is T.the-row) (shows 𝓤 H A T.the-row) (λ d. mach d ∷ []) mach-tells fullShare h vs b o $

@@ -1,7 +1,6 @@
 -- `host::take_frame` meets its contract: a walk of its MIR, by hand. The record's borrow is opened, the record is read whole, the frame is
 -- taken by value, the record that this gives is stored, and the borrow is closed at it.
--- All that the proof knows of `take_frame_by` is that it meets its contract. No line names a field of the record.
--- Assumes nothing.
+-- All that the proof knows of `take_frame_by` is that it meets its contract. No line names a field of the record. Assumes nothing.
 use mathlib.Core.Path.{_≡_, refl, ap}
 use Prim.Native.Nat.{ℕ, _<_, _^_}
 use mathlib.Core.List.{[], _∷_, List}
@@ -128,8 +127,8 @@ module _ {M : Type 1} (𝓤 : URA M) (H : Heap 𝓤) (A : Atoms 𝓤) (W : Given
         (fact 𝓤 (arrival r ≡ frameOf n h)))) (id⊢ 𝓤 _) $ pick ! (λ ws.
         split ! $ drop ! $ heard ! (arrival r ≡ frameOf n h)
         (λ e. split ! $ drop ! $ peeks ! S.the-row (Is S.the-row) (shows 𝓤 H A S.the-row) r (w ∷ []) (λ is.
-        -- [what the result owns; the record's cell; what it owned; the open borrow; obs; auth; what n owns; _4; …; _3; …; _2; …; _1; …;
-        -- room for _0; …]
+        -- [what the result owns; the record's cell; what it owned; the open borrow; obs; auth; what n owns; _4; …; _3; …; _2; …; _1;
+        -- …; room for _0; …]
         keep ! (1 ∷ 3 ∷ 4 ∷ 5 ∷ 7 ∷ 8 ∷ 9 ∷ 10 ∷ 11 ∷ 12 ∷ 13 ∷ 14 ∷ 15 ∷ 16 ∷ []) $ nothing ! $
         frame-end Controller T′.mir (T.the-row .written) (T.the-row .reaches) (T.the-row .own) (T.the-row .exit) (T.the-row .coded)
         𝓤 H A W (LS.makes T.the-type T′.the-plain 𝓤 H A) C Λ Post κ q b o γ _ _ (mach h) (‵ ftrue)

@@ -2,6 +2,7 @@
 use Rattle.player.proofs.StandLaws.{le-of}
 use mathlib.Core.Path.{sym}
 use borrow.Author.Needs.{needs}
+use Rattle.words.specs.WordSet.{emptySet}
 use Rattle.player.proofs.replay_file.Statement.{statement}
 use Rattle.player.proofs.replay_file.Tie as tie
 
@@ -30,6 +31,7 @@ slice-aggregate-play-input-2 : tie.Need-slice-aggregate-play-input-2
 slice-aggregate-play-input-2 c = search needs
 
 play-input-requires : tie.Need-play-input-requires
+unfolding emptySet
 play-input-requires c κs =
     let at-refill = c .before .before .before .before .before .before .before .before .before in
     let at-no-lengths = at-refill .before .before in

@@ -1,5 +1,5 @@
--- `controller::steps::receive_step` meets its contract: the engine's step picks the case, and unfit it has written nothing. Assumes
--- nothing.
+-- `controller::steps::receive_step` meets its contract: the engine's step picks the case, and unfit it has written nothing.
+-- Assumes nothing.
 use Prim.Native.Nat.{ℕ}
 use mathlib.Core.Path.{_∙_, sym, ap}
 use mathlib.Core.List.{List}

@@ -1,5 +1,4 @@
--- `phases::Filled::close` meets its contract: the frame's length, the pointer, room and the next pick the case.
--- Assumes nothing.
+-- `phases::Filled::close` meets its contract: the frame's length, the pointer, room and the next pick the case. Assumes nothing.
 use Prim.Native.Nat.{ℕ}
 use mathlib.Core.Path.{_∙_, sym, ap}
 use Rattle.layout.proofs.ChoiceLaws.{yes-of, no-of}

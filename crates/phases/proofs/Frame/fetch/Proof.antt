@@ -1,5 +1,4 @@
--- `phases::Frame::fetch` meets its contract: the frame's length, the pointer and the descriptor's rules pick the case.
--- Assumes nothing.
+-- `phases::Frame::fetch` meets its contract: the frame's length, the pointer and the descriptor's rules pick the case. Assumes nothing.
 use Prim.Native.Nat.{ℕ}
 use mathlib.Core.Path.{_∙_, sym, ap}
 use borrow.Author.Tests.{eq-eqb, ne-eqb}

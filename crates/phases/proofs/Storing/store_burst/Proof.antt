@@ -1,5 +1,4 @@
--- `phases::Storing::store_burst` meets its contract: each test picks its case, and the sizes are put in for the smaller.
--- Assumes nothing.
+-- `phases::Storing::store_burst` meets its contract: each test picks its case, and the sizes are put in for the smaller. Assumes nothing.
 use Prim.Native.Nat.{ℕ, _+_, min}
 use mathlib.Core.Path.{_≡_, _∙_, sym, ap}
 use native.Mathlib.Omega.{arith}

@@ -9,7 +9,7 @@ use mathlib.Core.Bool.{true, false}
 use mathlib.Core.List.{List}
 use native.Mathlib.Omega.{arith}
 use native.Mathlib.Nat.{zero-add}
-use borrow.Author.Tests.{lt-ltb, le-ltb}
+use borrow.Author.Tests.{lt-ltb}
 use Rattle.layout.specs.Layout.{addressEnd, descFirst, inDescriptors, queues}
 use Rattle.layout.specs.Class.{cpClass, ruleOf, classOf, classAt}
 use Rattle.layout.proofs.TableLaws.{getD-tabulate}
