@@ -3,6 +3,8 @@
 // (`Crosses`, specs/Crossing.antt). The entries named `.._sound` ask for a fit and sound state, and answer the same.
 // Document 01, "Answers by number".
 
+#![tactic(auto)]
+
 ghost use Rattle.std.specs.Prelude.{◌≡◌, true, false, ◌+◌, ◌*◌, ◌≤◌};
 ghost use Rattle.book.specs.World.{unfit, sound_world, fresh_state, fresh_used, fresh_lens};
 ghost use Rattle.guard.specs.Answers.{world_at, number_of_side};

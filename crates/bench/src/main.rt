@@ -2,6 +2,8 @@
 // read
 // and written is the crate `player`, and so is what is promised.
 
+#![tactic(auto)]
+
 use libc::{STDIN_FILENO, STDOUT_FILENO};
 use player::replay_file;
 

@@ -4,6 +4,8 @@
 // definitions in specs/; descriptors are taken and dropped one at a time, and no walk grows the stack with the chain.
 // Document 01, "The book and the release".
 
+#![tactic(auto)]
+
 ghost use Rattle.std.specs.Prelude.{◌≡◌, true, false, ◌≤◌, ◌<◌, ◌+◌, length, get_or, eqb};
 ghost use Rattle.layout.specs.Choice.{pick, both};
 ghost use Rattle.layout.specs.Bits.{clear_bit};
@@ -27,7 +29,7 @@ use registers::{
 };
 
 // Where the release stands: at a queue's head, in a packet that goes, or in the rest of a queue that goes.
-#[derive(Drop)]
+#[derive(Clone, Copy)]
 pub enum Mode {
     Head,
     Packet,

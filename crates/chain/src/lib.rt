@@ -6,6 +6,8 @@
 // The start of a packet has one rule and its middle another, each handing on to the other. What they hand on is thin and what they
 // answer is a number, so that the call of a rule by a rule is compiled to a jump and no chain makes the stack grow.
 
+#![tactic(auto)]
+
 ghost use Rattle.std.specs.Prelude.{◌≡◌, true, [], ◌≤◌, length};
 ghost use Rattle.layout.specs.Layout.{desc_bytes, good_ptr};
 ghost use Rattle.words.specs.Word.{word};

@@ -3,6 +3,8 @@
 // that 01, "The controller's steps", gives; a record unfit for its step is answered 22 and keeps its memory.
 // What an engine does in each of its phases is the crate `phases`; here are the channels, the queues by number, teardown and reset.
 
+#![tactic(auto)]
+
 mod record; // record.rt: named changes of the record
 mod steps; // steps.rt: the steps of the whole record
 mod writes; // writes.rt: register writes that no guard has judged

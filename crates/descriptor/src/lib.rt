@@ -3,6 +3,8 @@
 // words alone. The guard's chain check and the controller's fetch share them.
 // Document 01, "Memory, blocks and descriptors", "Judging".
 
+#![tactic(auto)]
+
 ghost use Rattle.std.specs.Prelude.{◌≡◌, ◌+◌, ◌≤◌, ◌<◌, ◌^◌, min, length};
 ghost use Rattle.layout.specs.Choice.{pick};
 ghost use Rattle.layout.specs.Layout.{desc_bytes, word_max};
@@ -34,7 +36,7 @@ const WORD_MAX: u32 = 0xFFFF_FFFF;
 
 // Where in a chain a descriptor stands: at the start of a packet; in the middle of one, with the SOP descriptor's word 3
 // and the sum of the lengths so far; or a receive buffer.
-#[derive(Drop)]
+#[derive(Clone, Copy)]
 pub enum Place {
     Start,
     Middle(u32, u32),
@@ -42,7 +44,7 @@ pub enum Place {
 }
 
 // A descriptor's four words.
-#[derive(Drop)]
+#[derive(Clone, Copy)]
 pub struct Descriptor {
     pub next: u32,
     pub buffer: u32,

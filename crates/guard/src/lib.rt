@@ -4,6 +4,8 @@
 // sound one, and answers the same. The small state is lent and changed where it lies. The change of a block's kind is the crate above.
 // Document 01, "Answers by number", "The book and the release", "Judging".
 
+#![tactic(auto)]
+
 ghost use Rattle.std.specs.Prelude.{◌≡◌, ℕ, ◌+◌, ◌<◌, ◌≤◌, true, false, List, length};
 ghost use Rattle.layout.specs.Layout.{desc_bytes, desc_words, queues, addr};
 ghost use Rattle.words.specs.Word.{word};

@@ -2,6 +2,8 @@
 // Promises: the record that was lent, descriptor memory, the burst and the answer are left exactly as the step by value leaves them.
 // Document 01, "The host loop keeps one controller record and lends it to each step, which changes it there".
 
+#![tactic(auto)]
+
 ghost use Rattle.std.specs.Prelude.{◌≡◌};
 ghost use Rattle.controller.specs.Controller.{outcome, step_of, arrival, frame_of};
 ghost use Rattle.host.specs.Host.{told_of, turn_of};

@@ -3,6 +3,8 @@
 // `kind_change`. `kind_change` refuses an unfit or unsound state with 1 and 2; `kind_change_sound` asks the caller for a fit and sound one,
 // and answers the same. Document 01, "Judging", "Kind change".
 
+#![tactic(auto)]
+
 ghost use Rattle.std.specs.Prelude.{◌≡◌, true, false, ℕ, ◌+◌, length};
 ghost use Rattle.layout.specs.Layout.{desc_bytes};
 ghost use Rattle.words.specs.Word.{word};

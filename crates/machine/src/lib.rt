@@ -5,6 +5,8 @@
 // accepted write reaches the controller as a write that no guard has judged; frames and steps leave the guard's part alone.
 // Document 01, "Answers by number", "The controller's steps".
 
+#![tactic(auto)]
+
 ghost use Rattle.std.specs.Prelude.{◌≡◌, List, ℕ};
 ghost use Rattle.machine.specs.Machine.{apply_write, apply_kind, apply_frame, apply_step};
 ghost use Rattle.machine.specs.After.{machine_at, Leaves, Moves, left_alone, met, reached_by};

@@ -2,6 +2,8 @@
 // Promises: a mark changes the bits that its step names and nothing else of descriptor memory, and is handed only the sixteen bytes of its
 // own descriptor. Document 01, "The controller's steps".
 
+#![tactic(auto)]
+
 ghost use Rattle.std.specs.Prelude.{◌≡◌, ◌+◌, ◌*◌, ◌≤◌, ◌<◌, length};
 ghost use Rattle.layout.specs.Layout.{desc_bytes};
 ghost use Rattle.words.specs.Word.{word_at, put_word, word, put};

@@ -5,6 +5,8 @@
 // Knows neither the controller's record nor queues by number: HDP and CP come in and go out as numbers, and of what is pending it hears
 // only whether a new packet is held back.
 
+#![tactic(auto)]
+
 mod common; // common.rt: what both engines ask
 pub mod receive; // receive.rt: the receive engine, a method for each phase
 pub mod transmit; // transmit.rt: the transmit engine, likewise

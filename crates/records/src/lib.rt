@@ -4,6 +4,8 @@
 // and nothing else of the buffer changes.
 // Document 01, "The bench".
 
+#![tactic(auto)]
+
 ghost use Rattle.std.specs.Prelude.{◌≡◌, true, ◌∷◌, [], ◌+◌, ◌≤◌, ◌<◌, length};
 ghost use Rattle.records.specs.declared.Event.TheVariants.{Moved};
 ghost use Rattle.records.specs.Records.{half_end, u16_at, u32_at, has_mark, engine_of};

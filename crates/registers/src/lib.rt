@@ -3,6 +3,8 @@
 // table is exactly what 01 says. No rule knows how many queues there are, and nothing here knows descriptors, chains or engines.
 // Document 01, "The book and the release", "Judging".
 
+#![tactic(auto)]
+
 ghost use Rattle.std.specs.Prelude.{◌≡◌, Bool, List, ℕ, ◌+◌, ◌<◌};
 ghost use Rattle.layout.specs.Choice.{pick};
 ghost use Rattle.layout.specs.Layout.{queues};

@@ -2,6 +2,8 @@
 // Promises: the machine afterwards and the bytes stored in the lent buffer are those of the definition `record_of`; nothing else of the
 // buffer changes. Document 01, "The bench".
 
+#![tactic(auto)]
+
 ghost use Rattle.std.specs.Prelude.{List, ℕ, ◌+◌, ◌*◌, ◌≤◌, ◌<◌, length};
 ghost use Rattle.machine.specs.After.{machine_at};
 ghost use Rattle.records.specs.declared.Record.TheVariants.{Write, Kind, Frame};

@@ -3,6 +3,8 @@
 // (`lent_by`, `came_by`, specs/Lent.antt; which word holds what: specs/Record.antt). It is linked by tests/probe alone.
 // Document 01, "The controller's steps".
 
+#![tactic(auto)]
+
 ghost use Rattle.std.specs.Prelude.{◌≡◌};
 ghost use Rattle.layout.specs.Layout.{channels};
 ghost use Rattle.controller.specs.Controller.{step_of, frame_of, unguarded_write};

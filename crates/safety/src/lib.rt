@@ -3,3 +3,5 @@
 // descriptor words in use. The statement is in specs/Statement.antt, its proof in proofs/Always.antt over the invariant of
 // proofs/Inv.antt. There is no code here.
 // Document 01, "Judging" and "The controller's steps".
+
+#![tactic(auto)]

@@ -3,6 +3,8 @@
 // It counts instead of comparing (specs/Spent.antt): the words in use are counted, each descriptor of each queue takes four of them
 // away, and nothing may be left.
 
+#![tactic(auto)]
+
 ghost use Rattle.std.specs.Prelude.{◌≡◌, ◌≤◌, ◌<◌, max, length, eqb};
 ghost use Rattle.layout.specs.Choice.{pick};
 ghost use Rattle.layout.specs.Layout.{desc_bytes, desc_words};

@@ -3,6 +3,8 @@
 // has as many bytes as are wanted, or the input has ended. What the read puts there is what was read: no contract can say more of it.
 // Document 01, "The bench".
 
+#![tactic(auto)]
+
 ghost use Rattle.std.specs.Prelude.{◌≡◌, ◌+◌, ◌-◌, ◌≤◌, length, drop};
 ghost use Rattle.std.proofs.Math.Seq.{paste};
 ghost use Rattle.window.specs.Window.{window_of, Inside, Refilled, Passed};
