@@ -11,14 +11,14 @@
 --     behind-end, behind-inside, side_at-behind    what stands behind a descriptor of a packet; a chain keeps its side
 --     next_fault-more, -start, -middle             where a chain may end
 --     length_of-lt                                 a bound of the field
-use Prim.Native.Nat.{ℕ, zero, suc, ◌+◌, ◌≤◌, ◌<◌}
+use Prim.Native.Nat.{ℕ, ◌+◌, ◌≤◌, ◌<◌}
 use mathlib.Core.Path.{◌≡◌, refl}
 use mathlib.Core.Logic.{◌≢◌}
-use mathlib.Core.Bool.{Bool, true, false, not}
+use mathlib.Core.Bool.{Bool, true, false}
 use native.Mathlib.Omega.{arith}
 use lib.Dec.{eqb, ltb}
 use borrow.Author.Tests.{eq-eqb, ne_eqb, eqb-true, eqb-false, le-ltb, ltb-false, not-false}
-use Rattle.layout.specs.Choice.{pick, or_else}
+use Rattle.layout.specs.Choice.{pick}
 use Rattle.layout.specs.Layout.{address_end}
 use Rattle.layout.specs.declared.Side.{Side}
 use Rattle.layout.specs.declared.Side.TheVariants.{Transmit, Receive}

@@ -7,7 +7,7 @@
 --     packet_length x3              the packet length in word 3
 --     desc_at w d                   the descriptor whose first word is word d, where w k is word k
 -- Laws: proofs/FlagLaws.antt. Assumes nothing: these are definitions.
-use Rattle.std.specs.Prelude.{ℕ, suc, ◌+◌, ◌-◌, ◌/◌, ◌%◌, ◌^◌, Bool, true, false}
+use Rattle.std.specs.Prelude.{ℕ, suc, ◌+◌, ◌-◌, ◌/◌, ◌%◌, ◌^◌, Bool}
 use Rattle.layout.specs.Choice.{pick}
 use Rattle.layout.specs.Bits.{bit}
 use Rattle.layout.specs.declared.Side.{Side}

@@ -9,7 +9,7 @@
 --     behind pl x2 x3           the place of the descriptor after this one
 --     own_fault                  14, then 15, then 17 at EOP: all but the blocks and the chain's end
 -- Laws: proofs/RuleLaws.antt. Assumes nothing: these are definitions.
-use Rattle.std.specs.Prelude.{ℕ, ◌+◌, min, Bool, true, false, not, eqb, ltb}
+use Rattle.std.specs.Prelude.{ℕ, ◌+◌, min, Bool, false, not, eqb, ltb}
 use Rattle.layout.specs.Choice.{pick, or_else}
 use Rattle.layout.specs.Layout.{address_end, word_max}
 use Rattle.layout.specs.declared.Side.{Side}

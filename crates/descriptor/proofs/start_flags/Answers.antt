@@ -1,0 +1,23 @@
+-- `descriptor::start_flags` asks SOP, OWNER, then the rest. Assumes nothing.
+use mathlib.Core.Path.{sym, ◌∙◌}
+use Rattle.descriptor.specs.Rules.{flags_fault}
+use Rattle.descriptor.proofs.start_flags.Goals as goal
+
+pub returns-then-not-has_sop : goal.returns-then-not-has_sop
+unfolding flags_fault
+returns-then-not-has_sop c = simp (sym c.has_sop.ensures ∙ c.if-not-has_sop.true)
+
+pub returns-then-not-has_owner : goal.returns-then-not-has_owner
+unfolding flags_fault
+returns-then-not-has_owner c = simp (
+  sym c.has_sop.ensures ∙ c.if-not-has_sop.false,
+  sym c.has_owner.ensures ∙ c.if-not-has_owner.true,
+)
+
+pub returns : goal.returns
+unfolding flags_fault
+returns c = simp (
+  sym c.has_sop.ensures ∙ c.if-not-has_sop.false,
+  sym c.has_owner.ensures ∙ c.if-not-has_owner.false,
+)
+    c.end_flags_fault.ensures
