@@ -1,9 +1,8 @@
 -- The lowest eleven bits of a word, and a length put in there. Assumes nothing.
 --     set_bit-mod, clear_bit-mod           the lowest eleven bits stay
 --     put_length-mod, -div, -bit, -lt     the length put in, and all above it
-use Prim.Native.Nat.{ℕ, ◌+◌, ◌*◌, ◌-◌, ◌/◌, ◌%◌, ◌≤◌, ◌<◌, ◌^◌}
+use Prim.Native.Nat.{ℕ, ◌+◌, ◌*◌, ◌/◌, ◌%◌, ◌≤◌, ◌<◌, ◌^◌}
 use mathlib.Core.Path.{◌≡◌, refl, ap, ◌∙◌, sym}
-use mathlib.Core.Bool.{true, false}
 use native.Mathlib.Nat.{div-div-eq-div-mul, add-mul-mod_self_right}
 use native.Mathlib.Omega.{arith}
 use lib.Dec.{eqb}

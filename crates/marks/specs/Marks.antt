@@ -6,7 +6,7 @@
 --     marked f d m               descriptor memory m with word 3 of the descriptor at word d changed by f
 --     last_marked                 receive step 4 on both words that it writes
 -- "other bits stay in 4 and 5". Laws: proofs/LengthLaws.antt, FlagLaws.antt, MarkLaws.antt. Assumes nothing: these are definitions.
-use Rattle.std.specs.Prelude.{ℕ, ◌+◌, ◌-◌, ◌%◌, ◌<◌, Bool, true, false, List, eqb}
+use Rattle.std.specs.Prelude.{ℕ, ◌+◌, ◌-◌, ◌%◌, ◌<◌, Bool, List, eqb}
 use Rattle.layout.specs.Choice.{pick}
 use Rattle.layout.specs.Bits.{set_bit, clear_bit}
 use Rattle.words.specs.Word.{word, put}

@@ -7,13 +7,12 @@ use borrow.Rule.Slice.PartMut.{put_mid}
 use Rattle.words.specs.Word.{put}
 use Rattle.words.proofs.PartLaws.{desc-word, desc-put}
 use Rattle.marks.specs.Marks.{changed}
-use borrow.Author.Rules.{rules}
 use Rattle.marks.proofs.mark_at.Goals as goal
 
 pub returns : goal.returns
 returns c = let s = c in
     let a = s.args in
-    let m = a.m-1.now in
+    let m = a.m.now in
     let k : 4 * a.d + 16 - 4 * a.d ≡ 16 = omega arith in
     simp k
     (ap (λ (l : List ℕ). put_mid (4 * a.d) 16 m l) (rw k at c.mark_part.ensures)

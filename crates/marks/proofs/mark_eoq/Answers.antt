@@ -1,6 +1,5 @@
 -- `marks::mark_eoq` marks word 3. Assumes nothing.
 use Rattle.marks.specs.Marks.{changed, marked}
-use borrow.Author.Rules.{rules}
 use Rattle.marks.proofs.mark_eoq.Goals as goal
 
 pub returns : goal.returns

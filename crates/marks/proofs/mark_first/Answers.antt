@@ -1,6 +1,5 @@
 -- `marks::mark_first` marks word 3. Assumes nothing.
 use Rattle.marks.specs.Marks.{changed, marked}
-use borrow.Author.Rules.{rules}
 use Rattle.marks.proofs.mark_first.Goals as goal
 
 pub returns : goal.returns

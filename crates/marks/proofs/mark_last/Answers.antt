@@ -3,7 +3,6 @@ use mathlib.Core.List.{List}
 use Prim.Native.Nat.{ℕ}
 use mathlib.Core.Path.{◌∙◌, ap}
 use Rattle.marks.specs.Marks.{last_mark, changed, marked, last_marked}
-use borrow.Author.Rules.{rules}
 use Rattle.marks.proofs.mark_last.Goals as goal
 
 pub returns : goal.returns

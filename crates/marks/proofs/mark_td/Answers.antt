@@ -1,6 +1,5 @@
 -- `marks::mark_td` marks word 3. Assumes nothing.
 use Rattle.marks.specs.Marks.{changed, marked}
-use borrow.Author.Rules.{rules}
 use Rattle.marks.proofs.mark_td.Goals as goal
 
 pub returns : goal.returns
