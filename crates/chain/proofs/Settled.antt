@@ -5,7 +5,7 @@ use mathlib.Core.Path.{◌≡◌, sym, ◌∙◌}
 use Prim.Native.Nat.{ℕ}
 use mathlib.Core.List.{List}
 use contract.Lifetimes.{Lfts}
-use borrow.Fn.Kinds.{Dens, res_t, ended_of}
+use borrow.Fn.Kinds.{Dens, ended_of}
 use denote.Triple.Clauses.{AtExit}
 use Rattle.words.specs.WordSet.{view}
 use Rattle.chain.specs.declared.Verdict.{Verdict}

@@ -9,7 +9,7 @@
 --     verdict_number v                  the refusal number of such an answer
 -- The place of a fault: for 12 the bad pointer itself, else the descriptor judged.
 -- w is descriptor memory as a function of the word number. Laws: proofs/ChainLaws.antt. Assumes nothing: these are definitions.
-use Rattle.std.specs.Prelude.{ℕ, ◌+◌, Bool, true, false, List, eqb}
+use Rattle.std.specs.Prelude.{ℕ, ◌+◌, List, eqb}
 use Rattle.layout.specs.Choice.{pick, or_else}
 use Rattle.layout.specs.Run.{Next, go, stop, run}
 use Rattle.layout.specs.Layout.{good_ptr, word_of}

@@ -7,7 +7,7 @@
 --     transmit_past      what follows a transmit descriptor without fault
 --     transmit_step, receive_step   what a leaf hands to its rule, as a step of the judge
 -- Assumes nothing: these are definitions.
-use Rattle.std.specs.Prelude.{ℕ, ◌+◌, ◌*◌, ◌/◌, ◌%◌, ◌≡◌, Bool, true, false, List, eqb}
+use Rattle.std.specs.Prelude.{ℕ, ◌+◌, ◌*◌, ◌/◌, ◌%◌, ◌≡◌, Bool, true, List, eqb}
 use Rattle.layout.specs.Choice.{pick, both}
 use Rattle.layout.specs.Layout.{good_ptr, word_of}
 use Rattle.layout.specs.Run.{Next, go, stop}

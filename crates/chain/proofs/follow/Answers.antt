@@ -1,5 +1,4 @@
 -- `chain::follow` begins with the rule of the side. Assumes nothing.
-use borrow.Author.Rules.{rules}
 use Rattle.chain.proofs.follow.Goals as goal
 
 pub returns-in-Transmit : goal.returns-in-Transmit

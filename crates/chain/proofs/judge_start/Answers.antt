@@ -2,11 +2,10 @@
 use mathlib.Core.Path.{refl, sym, ◌∙◌}
 use Rattle.chain.proofs.ChainLaws.{fault_at-none}
 use Rattle.chain.proofs.HandLaws.{transmit-refused, transmit-past}
-use borrow.Author.Rules.{rules}
 use Rattle.chain.proofs.judge_start.Goals as goal
 
 pub returns-then-n-ne0 : goal.returns-then-n-ne0
-returns-then-n-ne0 c = transmit-refused _ _ _ _ _ _ c.fault_at-n.ensures _ c.if-n-ne0.true c.fault_at-n.type-inv
+returns-then-n-ne0 c = transmit-refused _ _ _ _ _ _ c.fault_at-n.ensures _ c.if-n-ne0.true c.fault_at-n.type_inv
     c.refused.ensures
 
 pub word_number-k-requires : goal.word_number-k-requires
