@@ -14,10 +14,8 @@ use Rattle.phases.specs.declared.Receiving.{Receiving}
 use Rattle.phases.specs.declared.Receiving.TheVariants as R
 use Rattle.phases.specs.declared.Sent.{Sent}
 use Rattle.phases.specs.declared.Sends.{Sends}
-use Rattle.phases.specs.declared.Sends.TheVariants as Sends
 use Rattle.phases.specs.declared.Took.{Took}
 use Rattle.phases.specs.declared.Takes.{Takes}
-use Rattle.phases.specs.declared.Takes.TheVariants as Takes
 use Rattle.phases.specs.Transmit as T
 use Rattle.phases.specs.Receive as U
 

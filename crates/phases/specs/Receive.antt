@@ -8,7 +8,7 @@
 --     finish                  (6)
 --     take_step m phase        the step of any phase
 -- Assumes nothing: these are definitions.
-use Rattle.std.specs.Prelude.{ℕ, ◌+◌, ◌-◌, min, Bool, true, false, not, List, eqb, ltb}
+use Rattle.std.specs.Prelude.{ℕ, ◌+◌, ◌-◌, min, Bool, not, List, eqb, ltb}
 use Rattle.layout.specs.Choice.{pick, both}
 use Rattle.layout.specs.Layout.{good_ptr, word_of, address_end, word_max, length_max}
 use Rattle.layout.specs.declared.Side.TheVariants.{Receive}
@@ -17,7 +17,6 @@ use Rattle.descriptor.specs.Fields.{length_of}
 use Rattle.descriptor.specs.Rules.{fetch_fault}
 use Rattle.marks.specs.Marks.{first_mark, marked, last_marked}
 use Rattle.descriptor.specs.declared.Place.TheVariants.{Buffer}
-use Rattle.phases.specs.declared.Burst.{Burst}
 use Rattle.phases.specs.declared.Burst.TheVariants.{Quiet, Store}
 use Rattle.phases.specs.declared.Frame.{Frame}
 use Rattle.phases.specs.declared.Storing.{Storing}

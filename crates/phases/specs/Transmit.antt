@@ -7,7 +7,7 @@
 --     finish                    (6)
 --     send_step held m phase     the step of any phase; held: "While reset or transmit teardown is pending"
 -- Each gives what follows, or Unfit ("A record unfit for its step"). Assumes nothing: these are definitions.
-use Rattle.std.specs.Prelude.{ℕ, ◌+◌, ◌-◌, min, Bool, true, false, List, eqb, ltb}
+use Rattle.std.specs.Prelude.{ℕ, ◌+◌, ◌-◌, min, Bool, List, eqb, ltb}
 use Rattle.layout.specs.Choice.{pick}
 use Rattle.layout.specs.Layout.{good_ptr, word_of, address_end}
 use Rattle.layout.specs.declared.Side.TheVariants.{Transmit}
@@ -17,9 +17,7 @@ use Rattle.descriptor.specs.Rules.{sop_at, sum_at, fetch_fault}
 use Rattle.marks.specs.Marks.{eoq_mark, owner_mark, marked}
 use Rattle.descriptor.specs.declared.Place.{Place}
 use Rattle.descriptor.specs.declared.Place.TheVariants.{Start, Middle}
-use Rattle.phases.specs.declared.Burst.{Burst}
 use Rattle.phases.specs.declared.Burst.TheVariants.{Quiet, Read}
-use Rattle.phases.specs.declared.Packet.{Packet}
 use Rattle.phases.specs.declared.Reading.{Reading}
 use Rattle.phases.specs.declared.Finished.{Finished}
 use Rattle.phases.specs.declared.Closing.{Closing}

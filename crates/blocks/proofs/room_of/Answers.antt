@@ -17,16 +17,15 @@ returns-then-kinds-b c = simp (le-ltb _ _ c.if-lo-lt-RAM_FIRST.false)
 
 pub returns-then-not-is_permitted : goal.returns-then-not-is_permitted
 unfolding room_of
-returns-then-not-is_permitted c = let w = c in
-    simp (le-ltb _ _ w.if-lo-lt-RAM_FIRST.false)
-    (walk-barred _ _ _ _ _ w.loop-b-test.true w.loop-b.invariant.2 c.if-kinds-b.false
+returns-then-not-is_permitted c = simp (le-ltb _ _ c.if-lo-lt-RAM_FIRST.false)
+    (walk-barred _ _ _ _ _ c.loop-b-test.true c.loop-b.invariant.2 c.if-kinds-b.false
     (sym c.is_permitted.ensures ∙ c.if-not-is_permitted.true))
 
 pub loop-b-preserved : goal.loop-b-preserved
-loop-b-preserved c = let w = c in (
+loop-b-preserved c = (
   omega arith,
   omega arith,
-  walk-next _ _ _ _ _ w.loop-b-test.true w.loop-b.invariant.2 c.if-kinds-b.false
+  walk-next _ _ _ _ _ c.loop-b-test.true c.loop-b.invariant.2 c.if-kinds-b.false
       (sym c.is_permitted.ensures ∙ c.if-not-is_permitted.false),
 )
 

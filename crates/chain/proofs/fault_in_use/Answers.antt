@@ -6,12 +6,9 @@ use Rattle.chain.proofs.fault_in_use.Goals as goal
 
 pub returns-then-not-four_free : goal.returns-then-not-four_free
 unfolding fault_at
-returns-then-not-four_free c = let k = c in
-    simp (k.requires.1, ← k.word_number-k.ensures.0, sym c.four_free.ensures ∙ c.if-not-four_free.true)
+returns-then-not-four_free c = simp (c.requires.1, ← c.word_number-k.ensures.0, sym c.four_free.ensures ∙ c.if-not-four_free.true)
 
 pub returns : goal.returns
 unfolding fault_at
-returns c = let t = c in
-    let k = t in
-    c.descriptor_fault.ensures
-    ∙ simp (k.requires.1, ← k.word_number-k.ensures.0, sym t.four_free.ensures ∙ t.if-not-four_free.false)
+returns c = c.descriptor_fault.ensures
+    ∙ simp (c.requires.1, ← c.word_number-k.ensures.0, sym c.four_free.ensures ∙ c.if-not-four_free.false)

@@ -12,5 +12,4 @@ word_number-requires c = sym c.is_good.ensures ∙ c.if-not-is_good.false
 
 pub returns : goal.returns
 unfolding single
-returns c = let e = c in
-    simp (sym e.is_good.ensures ∙ e.if-not-is_good.false, ← c.word_number.ensures.0, ← c.word_of.ensures)
+returns c = simp (sym c.is_good.ensures ∙ c.if-not-is_good.false, ← c.word_number.ensures.0, ← c.word_of.ensures)

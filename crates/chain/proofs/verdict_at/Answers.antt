@@ -13,12 +13,9 @@ pub word_number-requires : goal.word_number-requires
 word_number-requires c = (c.requires.1 c.if-number-ne-NOT_PERMITTED.false).0
 
 pub buffer_room-room-requires : goal.buffer_room-room-requires
-buffer_room-room-requires c = let e = c in
-    let s = e in
-    measured-words s.args.kinds.now _ _ _ _ _ c.word_number.ensures.0 c.descriptor_at-d.ensures
-    (s.requires.1 e.if-number-ne-NOT_PERMITTED.false)
+buffer_room-room-requires c = measured-words c.args.kinds.now _ _ _ _ _ c.word_number.ensures.0 c.descriptor_at-d.ensures
+    (c.requires.1 c.if-number-ne-NOT_PERMITTED.false)
 
 pub returns : goal.returns
-returns c = let d = c in
-    said-barred _ _ _ _ _ _ d.if-number-ne-NOT_PERMITTED.false
-    (c.buffer_room-room.ensures ∙ buffer_room-words _ _ _ _ _ _ d.word_number.ensures.0 d.descriptor_at-d.ensures)
+returns c = said-barred _ _ _ _ _ _ c.if-number-ne-NOT_PERMITTED.false
+    (c.buffer_room-room.ensures ∙ buffer_room-words _ _ _ _ _ _ c.word_number.ensures.0 c.descriptor_at-d.ensures)

@@ -6,8 +6,7 @@ use Rattle.marks.specs.Marks.{changed}
 use Rattle.marks.proofs.mark_part.Goals as goal
 
 pub returns : goal.returns
-returns c = let s = c in
-    let a = s.args in
+returns c = let a = c.args in
     c.write_word.ensures
     ∙ ap (λ (w : ℕ). put_word a.part.now (4 * a.i) w)
     (c.mark_word.ensures

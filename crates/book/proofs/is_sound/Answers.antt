@@ -1,0 +1,35 @@
+-- `book::is_sound` makes the four tests of soundness in their order. Assumes nothing.
+use mathlib.Core.Path.{sym, ◌∙◌}
+use Rattle.book.proofs.SoundLaws.{sound-flags, sound-walk, sound-words, sound-lengths}
+use Rattle.book.proofs.is_sound.Goals as goal
+
+pub returns-then-not-are_flags : goal.returns-then-not-are_flags
+returns-then-not-are_flags c = sound-flags _ _ _ _ (sym c.are_flags.ensures ∙ c.if-not-are_flags.true)
+
+pub returns-then-not-walk_heads : goal.returns-then-not-walk_heads
+returns-then-not-walk_heads c = sound-walk _ _ _ _
+    (sym c.are_flags.ensures ∙ c.if-not-are_flags.false)
+    c.clear_all.ensures
+    c.walk_heads.ensures
+    (c.if-not-walk_heads.true)
+
+pub returns-then-not-is_same : goal.returns-then-not-is_same
+returns-then-not-is_same c = sound-words _ _ _ _
+    (sym c.are_flags.ensures ∙ c.if-not-are_flags.false)
+    c.clear_all.ensures
+    c.walk_heads.ensures
+    c.if-not-walk_heads.false
+    c.is_same.ensures
+    c.if-not-is_same.true
+
+pub returns : goal.returns
+returns c = sound-lengths _ _ _ _
+    (sym c.are_flags.ensures ∙ c.if-not-are_flags.false)
+    c.clear_all.ensures
+    c.walk_heads.ensures
+    c.if-not-walk_heads.false
+    c.is_same.ensures
+    c.if-not-is_same.false
+    c.clear_all-2.ensures
+    c.note_heads.ensures
+    c.lengths_fit.ensures
