@@ -35,9 +35,7 @@ use Rattle.phases.specs.declared.Sending.TheVariants as S
 use Rattle.phases.specs.declared.Receiving.{Receiving}
 use Rattle.phases.specs.declared.Receiving.TheVariants as R
 use Rattle.phases.specs.declared.Sends.{Sends}
-use Rattle.phases.specs.declared.Sends.TheVariants as Sends
 use Rattle.phases.specs.declared.Takes.{Takes}
-use Rattle.phases.specs.declared.Takes.TheVariants as Takes
 use Rattle.phases.specs.Transmit.{send_step}
 use Rattle.phases.specs.Receive.{take_step}
 use Rattle.phases.specs.Quiet.{quiet_tx, quiet_rx, waits}

@@ -25,7 +25,7 @@ use words::put_at;
 use writes::register_write;
 
 // The two engines of a channel, each in its phase.
-#[derive(Drop)]
+#[derive(Clone, Copy)]
 pub struct Channel {
     pub tx: Sending,
     pub rx: Receiving,
@@ -33,7 +33,7 @@ pub struct Channel {
 
 // The controller record. `state` holds registers and flags, as the guard's table does, and no heads; `stages` says for each queue which
 // teardown step comes next (1, 2, else 3).
-#[derive(Drop)]
+#[derive(Clone, Copy)]
 pub struct Controller {
     pub state: State,
     pub stages: [u8; QUEUES],

@@ -6,7 +6,7 @@ use Rattle.std.proofs.Common.{◌≡◌, ℕ, Bool, true, false, eqb, List, sym,
 use Rattle.layout.specs.Choice.{pick}
 use Rattle.layout.specs.declared.Side.{Side}
 use Rattle.words.specs.Word.{word, put}
-use Rattle.chain.specs.Chain.{JOut, place_of, chain_of, said, verdict_of, verdict_number}
+use Rattle.chain.specs.Chain.{place_of, chain_of, said, verdict_of, verdict_number}
 use Rattle.chain.specs.declared.Fault.{Fault}
 use Rattle.chain.specs.declared.Verdict.{Verdict}
 use Rattle.chain.specs.declared.Verdict.TheVariants.{Good, Bad}

@@ -10,7 +10,7 @@
 --     write-refused, write-gives, write-sound   a whole guest write
 --     store_word, store-sound       a store to a free word, where there is nothing to release
 --     state-1, state-2, state-0     1 and 2 as the functions find them
-use Rattle.std.proofs.Common.{◌≡◌, ℕ, ◌+◌, ◌-◌, ◌/◌, ◌%◌, ◌<◌, ◌≤◌, Bool, true, false, not, eqb, ltb, ◌≢◌, List, [], ◌∷◌, length, sym, refl, ap, ◌∙◌, subst, arith, le-ltb, lt-ltb, eq-eqb, ne_eqb, eqb-true}
+use Rattle.std.proofs.Common.{◌≡◌, ℕ, ◌+◌, ◌-◌, ◌/◌, ◌%◌, ◌<◌, ◌≤◌, Bool, true, false, not, eqb, ltb, ◌≢◌, List, length, sym, refl, ap, ◌∙◌, arith, le-ltb, lt-ltb, eq-eqb, ne_eqb, eqb-true}
 use borrow.Author.Tests.{not-true, not-false}
 use Rattle.layout.specs.Choice.{pick, both}
 use Rattle.layout.specs.Layout.{desc_first, desc_bytes, in_descriptors, queues, side_of, channel_of}
@@ -23,7 +23,7 @@ use Rattle.blocks.specs.Kinds.{fit_kinds}
 use Rattle.registers.specs.Table.{head_of, awaiting, set_head, set_hdp, heads_of}
 use Rattle.registers.specs.Rules.{head_number, register_fault, head_written, written}
 use Rattle.chain.specs.Chain.{place_of, chain_of}
-use Rattle.book.specs.HandOver.{Uses, taken_from}
+use Rattle.book.specs.HandOver.{Uses}
 use Rattle.book.specs.Quiet.{quiet}
 use Rattle.book.specs.World.{World, set_mem, set_state, set_uses, fit_parts, sound_book, unfit, sound_world, release}
 use Rattle.guard.specs.declared.Effect.{Effect}
@@ -33,7 +33,7 @@ use Rattle.guard.specs.declared.Answer.TheVariants.{Accepted, Refused}
 use Rattle.guard.specs.declared.Tail.{Tail}
 use Rattle.guard.specs.declared.Tail.TheVariants.{Of, Nobody}
 use Rattle.guard.specs.Answers.{Outcome, accept, refuse, answer_to, world_at, Gives}
-use Rattle.guard.specs.Judges.{started, judge_start, judge_head, judge_register, tail_in, judge_append, judge_last, judge_word, judge_class}
+use Rattle.guard.specs.Judges.{judge_start, judge_head, judge_register, tail_in, judge_append, judge_last, judge_word, judge_class}
 use Rattle.guard.specs.Judges.{judge}
 use Rattle.guard.specs.Guard.{state_fault, admitted, guest_write}
 use Rattle.book.proofs.QuietLaws.{release-quiet}

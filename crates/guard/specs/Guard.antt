@@ -4,7 +4,7 @@
 --     admitted s act        1, 2, then the release, then what the call itself does
 --     guest_write a v s      a guest write of v to address a
 -- Assumes nothing: these are definitions.
-use Rattle.std.specs.Prelude.{ℕ, Bool, true, false, List}
+use Rattle.std.specs.Prelude.{ℕ, List}
 use Rattle.layout.specs.Choice.{pick}
 use Rattle.words.specs.Word.{word}
 use Rattle.book.specs.World.{World, fit_parts, sound_book, unfit, sound_world, release}

@@ -9,7 +9,7 @@
 --     judge_class n v s            a register of class n
 --     judge a v s                 any address, from 3 on
 -- Assumes nothing: these are definitions.
-use Rattle.std.specs.Prelude.{ℕ, zero, suc, ◌+◌, ◌-◌, ◌/◌, ◌%◌, Bool, true, false, not, List, [], ◌∷◌, ◌==◌, nat_lt}
+use Rattle.std.specs.Prelude.{ℕ, zero, suc, ◌+◌, ◌-◌, ◌/◌, ◌%◌, Bool, false, not, List, [], ◌∷◌, ◌==◌, nat_lt}
 use Rattle.layout.specs.Choice.{pick, both}
 use Rattle.layout.specs.Layout.{desc_first, desc_words, good_ptr, word_of, addr, in_descriptors, queues, side_of, channel_of}
 use Rattle.layout.specs.Class.{class_at, hdp_class}

@@ -7,7 +7,7 @@
 --     change-refused, change-gives  a whole kind change
 use Prim.Native.Nat.{ℕ, zero, suc, ◌+◌, ◌*◌, ◌≤◌, ◌<◌}
 use mathlib.Core.Path.{◌≡◌, refl, ap, ◌∙◌, sym}
-use mathlib.Core.Bool.{Bool, true, false, not}
+use mathlib.Core.Bool.{Bool, true, false}
 use mathlib.Core.List.{List, [], ◌∷◌}
 use mathlib.Core.Logic.{◌≢◌}
 use native.Mathlib.Omega.{arith}
@@ -22,8 +22,8 @@ use Rattle.book.specs.World.{World, set_kinds, unfit, sound_world, release}
 use Rattle.guard.specs.declared.Effect.TheVariants.{Plain}
 use Rattle.guard.specs.declared.Answer.{Answer}
 use Rattle.guard.specs.declared.Answer.TheVariants.{Accepted, Refused}
-use Rattle.guard.specs.Answers.{Outcome, accept, refuse, answer_to, world_at, Gives}
-use Rattle.guard.specs.Guard.{state_fault, admitted}
+use Rattle.guard.specs.Answers.{accept, refuse, answer_to, world_at, Gives}
+use Rattle.guard.specs.Guard.{state_fault}
 use Rattle.guard.proofs.GivesLaws.{gives_as, admitted-refused, admitted-passed, admitted-sound}
 use Rattle.kinds.specs.Kinds.{received, in_reception, kind_number, judge_kind, kind_change}
 use Rattle.kinds.specs.Parts.{kind_outcome}

@@ -46,7 +46,7 @@ pub fn engine_at(which: u8, channel: u8) -> Engine
 }
 
 // Transmit step 1 inside a packet: the SOP descriptor's address and word 3, and the lengths so far.
-#[derive(Drop)]
+#[derive(Clone, Copy)]
 pub struct Packet {
     pub sop: u32,
     pub word3: u32,
@@ -54,7 +54,7 @@ pub struct Packet {
 }
 
 // Transmit step 2: the packet with this descriptor's length, the bytes still to be read, the latched next and EOP.
-#[derive(Drop)]
+#[derive(Clone, Copy)]
 pub struct Reading {
     pub sop: u32,
     pub word3: u32,
@@ -66,7 +66,7 @@ pub struct Reading {
 }
 
 // Transmit step 3: a buffer that is read to its end.
-#[derive(Drop)]
+#[derive(Clone, Copy)]
 pub struct Finished {
     pub sop: u32,
     pub word3: u32,
@@ -76,7 +76,7 @@ pub struct Finished {
 }
 
 // Transmit steps 4 and 5: a packet that is read, and the next that was latched after it.
-#[derive(Drop)]
+#[derive(Clone, Copy)]
 pub struct Closing {
     pub sop: u32,
     pub word3: u32,
@@ -84,13 +84,13 @@ pub struct Closing {
 }
 
 // Steps 6 of both engines: the packet is marked; the next that was latched.
-#[derive(Drop)]
+#[derive(Clone, Copy)]
 pub struct Leaving {
     pub next: u32,
 }
 
 // The transmit engine. Its current descriptor is always the one at HDP.
-#[derive(Drop)]
+#[derive(Clone, Copy)]
 pub enum Sending {
     Idle,
     New,
@@ -103,7 +103,7 @@ pub enum Sending {
 }
 
 // Receive step 1: the frame's first descriptor, the bytes stored so far and those still to come.
-#[derive(Drop)]
+#[derive(Clone, Copy)]
 pub struct Frame {
     pub first: u32,
     pub stored: u32,
@@ -111,7 +111,7 @@ pub struct Frame {
 }
 
 // Receive step 2: where the next byte goes, the room left in this buffer, and the bytes stored in it.
-#[derive(Drop)]
+#[derive(Clone, Copy)]
 pub struct Storing {
     pub first: u32,
     pub stored: u32,
@@ -122,7 +122,7 @@ pub struct Storing {
 }
 
 // Receive step 3: the buffer is full, or the frame is at its end.
-#[derive(Drop)]
+#[derive(Clone, Copy)]
 pub struct Filled {
     pub first: u32,
     pub stored: u32,
@@ -132,7 +132,7 @@ pub struct Filled {
 }
 
 // Receive steps 4 and 5: the frame is stored; the next that was latched, and whether some of it was dropped.
-#[derive(Drop)]
+#[derive(Clone, Copy)]
 pub struct Stored {
     pub first: u32,
     pub stored: u32,
@@ -142,7 +142,7 @@ pub struct Stored {
 }
 
 // The receive engine. Its current descriptor is always the one at HDP.
-#[derive(Drop)]
+#[derive(Clone, Copy)]
 pub enum Receiving {
     Idle,
     Wait,

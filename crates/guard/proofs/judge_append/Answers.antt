@@ -1,0 +1,13 @@
+-- `guard::judge_append`: the chain is judged over the words in use; without fault it is taken and its address stored. Assumes nothing.
+use Rattle.guard.proofs.ChainLaws.{append-refused, append-taken}
+use Rattle.guard.proofs.judge_append.Goals as goal
+
+pub returns-in_default : goal.returns-in_default
+returns-in_default c = append-refused _ _ _ _ _ _ _ c.check_used-c.ensures _ _ _ c.in_default.is
+    c.refusal.ensures
+
+pub returns : goal.returns
+returns c = append-taken _ _ _ _ _ _ _
+    c.check_used-c.ensures _ _ _
+    c.in-Good.is
+    c.take_chain.ensures c.put_at.ensures

@@ -1,0 +1,14 @@
+-- `records::put_bad`: the words, the offset, a newline, one behind the other. Assumes nothing.
+use native.Mathlib.Omega.{arith}
+use Rattle.records.proofs.PrintLaws.{prints-then}
+use Rattle.records.proofs.LineLaws.{length-decimal}
+use Rattle.records.specs.Lines.{bad_line}
+use Rattle.records.proofs.put_bad.Goals as goal
+
+pub put_byte-requires : goal.put_byte-requires
+put_byte-requires c = omega (arith, length-decimal c.args.offset)
+
+pub returns : goal.returns
+unfolding bad_line
+returns c = prints-then c.put_text-number.ensures
+    (prints-then c.put_decimal-newline.ensures c.put_byte.ensures)

@@ -1,0 +1,12 @@
+-- `records::put_number_line`: head, first part and tail, one behind the other. Assumes nothing.
+use native.Mathlib.Omega.{arith}
+use Rattle.records.proofs.PrintLaws.{prints-then}
+use Rattle.records.proofs.LineLaws.{length-decimal}
+use Rattle.records.proofs.put_number_line.Goals as goal
+
+pub put_tail-requires : goal.put_tail-requires
+put_tail-requires c = omega (arith, length-decimal c.args.b)
+
+pub returns : goal.returns
+returns c = prints-then c.put_head-part.ensures
+    (prints-then c.put_decimal-tail.ensures c.put_tail.ensures)

@@ -1,0 +1,12 @@
+-- `records::put_text`: what is stored so far is what the text begins with. Assumes nothing.
+use Prim.Native.Nat.{◌-◌, ◌≤◌}
+use mathlib.Core.Path.{◌≡◌}
+use lib.ListN.{length, take}
+use lib.Seq.{sets}
+use Rattle.records.proofs.put_text.Given as goal
+
+abbrev pub invariant-loop-i : goal.invariant-loop-i
+invariant-loop-i l = (l.i ≤ length l.text) × (l.out ≡ sets l.initial.out l.at (take l.i l.text)) × (length l.out ≡ length l.initial.out)
+
+abbrev pub decreases-loop-i : goal.decreases-loop-i
+decreases-loop-i l = length l.text - l.i
