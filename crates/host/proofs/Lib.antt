@@ -1,3 +1,1 @@
-pub mod LentLaws
-pub mod MachineLaws
 pub mod UniqueLaws

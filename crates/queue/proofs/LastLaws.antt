@@ -15,7 +15,7 @@ use Rattle.layout.specs.Choice.{pick}
 use Rattle.layout.specs.Layout.{good_ptr, addr, desc_words}
 use Rattle.layout.proofs.ChoiceLaws.{clash}
 use Rattle.layout.proofs.PointerLaws.{good_ptr-addr, word_of-addr, good_ptr-zero}
-use Rattle.words.specs.WordSet.{words_in_use}
+use Rattle.words.specs.WordSet.{words_in_use, drop_four}
 use Rattle.words.proofs.SetLaws.{words_in_use-falls, words_in_use-le, has-true}
 use Rattle.guard.specs.declared.Tail.TheVariants.{Of}
 use Rattle.guard.specs.Judges.{last_from, last_of, is_last, tail_in}
@@ -24,8 +24,8 @@ use Rattle.queue.proofs.SoleLaws.{sole-has, sole-drop}
 
 pub sole-length : {u : List ℕ} (ds rs : List ℕ) → Sole u (ds ++ rs) → length ds ≤ words_in_use u
 sole-length [] rs s = omega arith
-sole-length {u} (d ∷ ds) rs s =
-    let h = sole-length ds rs (sole-drop d (ds ++ rs) s) in
+sole-length {u = u} (d ∷ ds) rs s =
+    let h = sole-length {u = drop_four u d} ds rs (sole-drop d (ds ++ rs) s) in
     let f = words_in_use-falls u d (has-true u d (sole-has d (ds ++ rs) d s (omega arith) (omega arith))) in
     omega arith
 

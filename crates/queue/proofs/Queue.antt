@@ -12,7 +12,7 @@
 --     kept_all, gone_all     of each queue what is left, and of all of them what goes
 --     Unmet met ds, add_all met ds   each is over free words when its turn comes; the words with all of theirs
 --     drop_all u ds, take_all w side u ds   words in use and lengths without ds, and with them
---     field_own, behind_at      the rules of one descriptor at a place, and the place behind it
+--     own_at, behind_at      the rules of one descriptor at a place, and the place behind it
 --     Fresh w pl ds        still to be fetched from a place on: no fault, and the end is not inside a packet
 --     Roomy kinds side w ds   every block that a buffer touches permits it
 -- No promise and no statement speaks of them. Laws: the files beside this one. Assumes nothing: these are definitions.
@@ -145,8 +145,8 @@ take_all w side u (d ∷ ds) = take_all w side (take_one side (w (d + 2)) u d) d
 
 -- ---- what is still to be fetched
 
-abbrev pub field_own : (ℕ → ℕ) → Place → ℕ → ℕ
-field_own w pl d = own_fault pl (w (d + 1)) (w (d + 2)) (w (d + 3))
+abbrev pub own_at : (ℕ → ℕ) → Place → ℕ → ℕ
+own_at w pl d = own_fault pl (w (d + 1)) (w (d + 2)) (w (d + 3))
 
 abbrev pub behind_at : (ℕ → ℕ) → Place → ℕ → Place
 behind_at w pl d = behind pl (w (d + 2)) (w (d + 3))
@@ -154,7 +154,7 @@ behind_at w pl d = behind pl (w (d + 2)) (w (d + 3))
 -- the chain check's own rules, but for the blocks and the chain's end: so an append never disturbs a descriptor's freshness
 abbrev pub Fresh : (ℕ → ℕ) → Place → List ℕ → Type 0
 Fresh w pl [] = ends_at pl ≡ 0
-Fresh w pl (d ∷ ds) = (field_own w pl d ≡ 0) × Fresh w (behind_at w pl d) ds
+Fresh w pl (d ∷ ds) = (own_at w pl d ≡ 0) × Fresh w (behind_at w pl d) ds
 
 -- the blocks need no place: a descriptor's offset counts where its own SOP is set
 abbrev pub RoomAt : List ℕ → Side → (ℕ → ℕ) → ℕ → Type 0
