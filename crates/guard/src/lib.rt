@@ -52,7 +52,7 @@ const PASSED_LAST: u8 = UNOFFERED - 1;
 const UNOFFERED_LAST: u8 = UNGUARDED - 1;
 
 // What an accepted write did, with the side and the channel.
-#[derive(Drop)]
+#[derive(Clone, Copy)]
 pub enum Effect {
     Plain,
     Started(Side, u8),
@@ -60,7 +60,7 @@ pub enum Effect {
 }
 
 // The answer to a guard call.
-#[derive(Drop)]
+#[derive(Clone, Copy)]
 pub enum Answer {
     Accepted(Effect),
     Refused(u8),

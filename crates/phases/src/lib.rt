@@ -23,7 +23,7 @@ pub enum Burst {
 }
 
 // Who takes a step: the reset, or an engine or its teardown on a channel.
-#[derive(Drop)]
+#[derive(Clone, Copy)]
 pub enum Engine {
     Reset,
     Transmit(u8),
