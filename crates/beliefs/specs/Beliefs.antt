@@ -6,7 +6,7 @@
 --     latched_zero, left_behind, LateAppend   an append that is accepted is not always sent
 --     code_left, tearing, OldCode       a CP of 0xFFFFFFFC does not mean that this teardown is done
 -- Proved: proofs/Beliefs.antt. Assumes nothing: these are definitions.
-use Rattle.std.specs.Prelude.{ℕ, zero, suc, ◌+◌, get_or, ◌≡◌, true, false, List, [], ◌∷◌, ◌++◌}
+use Rattle.std.specs.Prelude.{ℕ, zero, suc, get_or, ◌≡◌, true, false, List, [], ◌∷◌, ◌++◌}
 use Rattle.layout.specs.Layout.{addr}
 use Rattle.words.specs.Word.{word}
 use Rattle.words.specs.WordSet.{has}

@@ -40,7 +40,7 @@ use Rattle.guard.specs.Answers.{number_of, Outcome, accept, refuse}
 use Rattle.guard.specs.Judges.{judge_chain, judge_start, judge_head, judge_register, tail_in, judge_append, at_tail, judge_last, judge_word}
 use Rattle.guard.specs.Judges.{judge_class, judge}
 use Rattle.controller.specs.declared.Controller.{Controller}
-use Rattle.controller.specs.Controller.{StepDone, answer, unguarded_write, register_write}
+use Rattle.controller.specs.Controller.{answer, unguarded_write, register_write}
 use Rattle.safety.specs.Follows.{Alike, Agrees, Carried}
 
 -- ---- tables that say the same

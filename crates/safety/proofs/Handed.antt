@@ -18,7 +18,7 @@ use borrow.Author.Tests.{eq-eqb, ne_eqb, le-leb, le-ltb, ltb-true, ltb-false}
 use Rattle.layout.specs.Choice.{pick}
 use Rattle.layout.specs.Layout.{queues}
 use Rattle.layout.proofs.ChoiceLaws.{clash, pick-holds}
-use Rattle.registers.specs.Table.{state_words, hdp_at, marks_at, bit_at, is_device, loaded}
+use Rattle.registers.specs.Table.{hdp_at, marks_at, bit_at, is_device, loaded}
 use Rattle.registers.proofs.TableLaws.{is_device-head, get_or-loaded, length-loaded}
 use Rattle.book.specs.World.{World, set_mem, set_state, release}
 use Rattle.guard.specs.Answers.{Outcome, number_of}

@@ -34,9 +34,7 @@ use Rattle.phases.specs.declared.Sending.TheVariants as S
 use Rattle.phases.specs.declared.Receiving.{Receiving}
 use Rattle.phases.specs.declared.Receiving.TheVariants as R
 use Rattle.phases.specs.declared.Sends.{Sends}
-use Rattle.phases.specs.declared.Sends.TheVariants as Sends
 use Rattle.phases.specs.declared.Takes.{Takes}
-use Rattle.phases.specs.declared.Takes.TheVariants as Takes
 use Rattle.phases.specs.Transmit.{send_step, mark_eoq, clear_own}
 use Rattle.phases.specs.Receive.{take_step, mark_last, mark_first}
 use Rattle.controller.specs.Controller.{StepDone, answer, tx_of, rx_of, send_moved, take_moved, held_back, quiet_engine, transmit_step}

@@ -15,7 +15,6 @@ use lib.ListN.{length, replicate, length-replicate}
 use lib.Dec.{eqb, leb, ltb}
 use borrow.Author.Tests.{eq-eqb, leb-true, ltb-true}
 use Rattle.layout.specs.Choice.{pick, both}
-use Rattle.layout.specs.Bits.{bit}
 use Rattle.layout.specs.Layout.{length_max, desc_bytes, desc_words, channels, queues, side_of, queue_of}
 use Rattle.layout.specs.declared.Side.TheVariants as Sides
 use Rattle.layout.proofs.ChoiceLaws.{clash, by-pick, both_left, both_right}

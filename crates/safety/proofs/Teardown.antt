@@ -24,7 +24,7 @@ use lib.Seq.{get_or-set_same}
 use borrow.Author.Tests.{eq-eqb, ne_eqb, eqb-true, eqb-false}
 use Rattle.layout.specs.Choice.{pick, both}
 use Rattle.layout.specs.Bits.{bit, clear_bit}
-use Rattle.layout.specs.Layout.{good_ptr, addr, queues, marks, channels, side_of, channel_of}
+use Rattle.layout.specs.Layout.{good_ptr, addr, queues, channels, side_of, channel_of}
 use Rattle.layout.specs.declared.Side.{Side}
 use Rattle.layout.specs.declared.Side.TheVariants.{Transmit, Receive}
 use Rattle.layout.proofs.ChoiceLaws.{clash, by-pick, both_left, both_right}

@@ -6,7 +6,7 @@
 use Prim.Native.Nat.{ℕ, ◌<◌}
 use mathlib.Core.Path.{◌≡◌, refl, ap, ◌∙◌, sym}
 use mathlib.Core.Bool.{true}
-use mathlib.Core.List.{List, [], ◌∷◌}
+use mathlib.Core.List.{List}
 use mathlib.Core.Logic.{◌≢◌}
 use native.Mathlib.Omega.{arith}
 use borrow.Author.Tests.{ne_eqb}
@@ -15,7 +15,7 @@ use Rattle.layout.specs.declared.Side.TheVariants.{Transmit, Receive}
 use Rattle.layout.proofs.PointerLaws.{good_ptr-bounds}
 use Rattle.blocks.specs.Kinds.{fit_kinds}
 use Rattle.registers.specs.Table.{head_of, hdp_of}
-use Rattle.book.specs.World.{sound_world, release}
+use Rattle.book.specs.World.{release}
 use Rattle.queue.proofs.Queue.{start}
 use Rattle.guard.specs.declared.Answer.{Answer}
 use Rattle.guard.specs.Answers.{Outcome, number_of, Gives}
@@ -28,8 +28,8 @@ use Rattle.phases.specs.declared.Receiving.{Receiving}
 use Rattle.phases.specs.declared.Receiving.TheVariants as R
 use Rattle.controller.specs.Controller.{tx_of, rx_of}
 use Rattle.machine.specs.Machine.{Machine, Op, write, kind, apply, run_ops, world_of, carried_out, apply_write, apply_kind, fresh_machine}
-use Rattle.safety.specs.Statement.{Legal, AllLegal}
-use Rattle.safety.specs.Follows.{Number, Untouched, Alone, is_owned, Follows}
+use Rattle.safety.specs.Statement.{AllLegal}
+use Rattle.safety.specs.Follows.{Untouched, Alone, Follows}
 use Rattle.safety.proofs.Inv.{TxInv, RxInv, Inv}
 use Rattle.safety.proofs.Marks.{queue-lt, phase-queue}
 use Rattle.safety.proofs.Machines.{fresh-inv}

@@ -11,7 +11,7 @@
 --     Safety                  the statement: every legal operation is, after any legal operations from a fresh start
 --     Soundness               and beside it: the guard's checks of memory, kinds and book pass then, so that 1 and 2 never occur
 -- Proved: proofs/Always.antt. Assumes nothing: these are definitions.
-use Rattle.std.specs.Prelude.{ℕ, ◌+◌, ◌-◌, ◌/◌, ◌≤◌, ◌<◌, ◌^◌, ◌≡◌, ◌≢◌, true, false, List, [], ◌∷◌, length, get_or}
+use Rattle.std.specs.Prelude.{ℕ, ◌+◌, ◌≤◌, ◌<◌, ◌^◌, ◌≡◌, ◌≢◌, true, false, List, [], ◌∷◌, length, get_or}
 use Rattle.layout.specs.Layout.{ram_first}
 use Rattle.layout.specs.declared.Side.{Side}
 use Rattle.layout.specs.declared.Side.TheVariants.{Transmit, Receive}

@@ -1,13 +1,10 @@
 -- `replay::play_steps` meets its contract: one step behind another. Assumes nothing.
 use Prim.Native.Nat.{◌+◌, ◌-◌, ◌*◌, ◌≤◌}
-use mathlib.Core.Path.{◌≡◌, refl, ◌∙◌}
-use native.Mathlib.Omega.{arith}
+use mathlib.Core.Path.{◌≡◌}
 use lib.ListN.{length}
-use borrow.Author.Rules.{rules}
 use Rattle.records.specs.Lines.{line_max}
 use Rattle.replay.specs.Replay.{steps_of}
 use Rattle.replay.specs.Plays.{Goes}
-use Rattle.replay.proofs.PlayLaws.{goes_none, goes-more, goes-all, made_none, made_more, step_room, room-less, room-end}
 use Rattle.replay.proofs.play_steps.Given as goal
 
 abbrev pub invariant-loop-left : goal.invariant-loop-left

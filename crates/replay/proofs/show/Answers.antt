@@ -2,11 +2,10 @@
 use Rattle.replay.proofs.PlayLaws.{line-end}
 use Rattle.records.proofs.LineLaws.{length-line_of}
 use mathlib.Core.Path.{refl}
-use borrow.Author.Rules.{rules}
 use Rattle.replay.proofs.show.Goals as goal
 
 pub returns : goal.returns
-returns c = (
-  line-end c.put_event-end.ensures (length-line_of _),
-  record { ctl = refl; text = c.put_event-end.ensures },
-)
+returns c = record {
+  end_bound = line-end c.put_event-end.ensures (length-line_of _);
+  shows = record { ctl = refl; text = c.put_event-end.ensures };
+}
