@@ -5,7 +5,7 @@
 --     linked-unique             the list from a pointer is the only one
 --     linked-same               words that agree at each word 0 have the same links
 --     linked-join               a queue goes on where its last word 0 leads
-use Prim.Native.Nat.{ℕ, ◌+◌, ◌≤◌}
+use Prim.Native.Nat.{ℕ, ◌≤◌}
 use mathlib.Core.Path.{◌≡◌, refl, ap, ap₂, ◌∙◌, sym}
 use mathlib.Core.List.{List, [], ◌∷◌, ◌++◌}
 use mathlib.Core.Logic.{◌≢◌}

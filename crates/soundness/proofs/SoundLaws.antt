@@ -7,7 +7,7 @@
 --     lengths-recorded, recorded-lengths   the recorded lengths fit them exactly where they are recorded right
 --     Queues, sound-queues     a sound book has queues: heads, links, words in use, recorded lengths
 --     sound-yes                and a book that has queues is sound
-use Prim.Native.Nat.{ℕ, zero, suc, ◌+◌, ◌≤◌, ◌<◌}
+use Prim.Native.Nat.{ℕ, zero, suc, ◌≤◌, ◌<◌}
 use mathlib.Core.Path.{◌≡◌, refl, ap, ap₂, ◌∙◌, sym}
 use mathlib.Core.Bool.{Bool, true, false}
 use mathlib.Core.List.{List, [], ◌∷◌, ◌++◌, append-nil}

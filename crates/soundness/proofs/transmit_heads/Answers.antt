@@ -1,0 +1,14 @@
+-- `soundness::transmit_heads` has walked the transmit queues of the channels below c. Assumes nothing.
+use native.Mathlib.Omega.{arith}
+use borrow.Author.Rules.{rules}
+use Rattle.soundness.proofs.LoopLaws.{spending-first, spending-next, spending-last}
+use Rattle.soundness.proofs.transmit_heads.Goals as goal
+
+pub loop-c-init : goal.loop-c-init
+loop-c-init c = spending-first _ _ _ _ _ _
+
+pub loop-c-preserved : goal.loop-c-preserved
+loop-c-preserved c = spending-next _ _ _ (search rules) c.transmit_from-rest.ensures c.loop-c.invariant
+
+pub returns : goal.returns
+returns c = spending-last _ _ _ (omega arith) c.loop-c.invariant

@@ -1,0 +1,14 @@
+-- `soundness::transmit_heads` has walked the transmit queues of the channels below c. Assumes nothing.
+use Prim.Native.Nat.{◌-◌}
+use mathlib.Core.Bool.{false}
+use Rattle.layout.specs.Layout.{channels}
+use Rattle.words.specs.Word.{word}
+use Rattle.soundness.specs.Spent.{ask_words}
+use Rattle.soundness.proofs.LoopLaws.{Spending}
+use Rattle.soundness.proofs.transmit_heads.Given as goal
+
+abbrev pub invariant-loop-c : goal.invariant-loop-c
+invariant-loop-c l = Spending (word l.m) (ask_words l.used) false l.t l.initial.met l.left l.c l.met l.rest
+
+abbrev pub decreases-loop-c : goal.decreases-loop-c
+decreases-loop-c l = channels - l.c
