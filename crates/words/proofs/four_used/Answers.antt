@@ -4,4 +4,4 @@ use native.Mathlib.Omega.{arith}
 use Rattle.words.proofs.four_used.Goals as goal
 
 pub returns : goal.returns
-returns c = used_at-number _ _ _ (λ k. omega (arith, c.shared_slice_known-1.given k)) c.read_word.ensures
+returns c = used_at-number _ _ _ (λ k. omega (arith, c.type_inv.s k)) c.read_word.ensures
