@@ -14,7 +14,7 @@ use std::io;
 use std::io::Read;
 
 // The part of a buffer that is still to be taken, and whether the input has been read to its end.
-#[derive(Drop)]
+#[derive(Clone, Copy)]
 pub struct Window {
     pub from: usize,
     pub len: usize,
