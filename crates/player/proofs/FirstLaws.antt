@@ -4,20 +4,20 @@
 --     ram-fits, first-is, first-room   a first record has kinds, few enough, and all of them are there
 --     first-none, first-lines  what is printed where there is none, and where there is one
 --     printed-bad, printed-all the whole input
-use Prim.Native.Nat.{ℕ, zero, suc, ◌+◌, ◌-◌, ◌*◌, ◌≤◌, ◌<◌}
+use Prim.Native.Nat.{ℕ, suc, ◌+◌, ◌-◌, ◌≤◌, ◌<◌}
 use mathlib.Core.Path.{◌≡◌, refl, ap, ◌∙◌, sym, subst}
 use mathlib.Core.Bool.{Bool, true, false}
 use mathlib.Core.Logic.{◌≢◌}
-use mathlib.Core.List.{List, [], ◌++◌, append_assoc, append-nil}
+use mathlib.Core.List.{List, [], ◌++◌, append-nil}
 use native.Mathlib.Nat.{zero-add}
 use native.Mathlib.Numerals.{add-one}
 use native.Mathlib.Omega.{arith}
-use lib.ListN.{length, get_or, set, take, drop, replicate, length-drop, length-append}
+use lib.ListN.{length, get_or, set, take, drop, length-drop, length-append}
 use lib.Seq.{paste, paste-suc, take-paste, get_or-drop, drop-drop, take-take, take-append-le, drop-append-le}
 use lib.Dec.{leb}
 use borrow.Author.Tests.{leb-true}
 use Rattle.layout.specs.Choice.{pick, both}
-use Rattle.layout.proofs.ChoiceLaws.{both_left, both_right, clash}
+use Rattle.layout.proofs.ChoiceLaws.{both_left, both_right}
 use Rattle.blocks.specs.Kinds.{all_kinds}
 use Rattle.controller.specs.declared.Controller.{Controller}
 use Rattle.controller.specs.Controller.{fresh_controller}
@@ -27,15 +27,15 @@ use Rattle.records.specs.declared.Record.{Record}
 use Rattle.records.specs.declared.Record.TheVariants.{Ram, Write, Kind, Frame, Steps}
 use Rattle.records.specs.declared.Decoded.{Decoded}
 use Rattle.records.specs.declared.Decoded.TheVariants.{End, Good, Bad}
-use Rattle.records.specs.Records.{u16_at, has_mark, ram_max, record_max, decode_ram, decode}
-use Rattle.records.specs.Lines.{line_max, bad_line}
+use Rattle.records.specs.Records.{u16_at, has_mark, ram_max, decode_ram, decode}
+use Rattle.records.specs.Lines.{bad_line}
 use Rattle.replay.specs.Replay.{replay_for, replay_first, replay}
 use Rattle.window.specs.declared.Window.{Window}
-use Rattle.window.specs.Window.{window_of, Inside, Passed}
+use Rattle.window.specs.Window.{window_of, Inside}
 use Rattle.window.proofs.WindowLaws.{window-part, length-window, window-pass}
 use Rattle.player.specs.declared.Run.{Run}
 use Rattle.player.specs.declared.Last.{Last}
-use Rattle.player.specs.Stands.{replay_from, MayCome, Enough, Lines, Stands, Holds, offset_end}
+use Rattle.player.specs.Stands.{replay_from, MayCome, Enough, Lines, Stands, Holds}
 use Rattle.player.specs.Turns.{kinds_of, kinds_in, Ends, Begun, Fresh, Reached, Printed}
 use Rattle.player.proofs.ReplayLaws.{fuel, decode-more}
 use Rattle.player.proofs.StandLaws.{reached-over}

@@ -3,10 +3,10 @@
 --     from_end, from-bad, from-good     what is printed for what stands next
 --     decode-more              a window that decides, decides whatever may come
 --     lines-refill, lines-flush, lines_end, lines-bad, lines-good   how each part of a turn keeps `Lines`
-use Prim.Native.Nat.{ℕ, zero, suc, ◌+◌, ◌≤◌, ◌<◌}
+use Prim.Native.Nat.{ℕ, zero, suc, ◌+◌, ◌<◌}
 use mathlib.Core.Path.{◌≡◌, refl, ap, ◌∙◌, sym}
 use mathlib.Core.Bool.{Bool, true, false}
-use mathlib.Core.Logic.{◌⊎◌, inl, inr}
+use mathlib.Core.Logic.{inl, inr}
 use mathlib.Core.List.{List, [], ◌++◌, append_assoc, append-nil}
 use native.Mathlib.Omega.{arith}
 use lib.ListN.{length, take, drop, length-drop}
@@ -21,7 +21,7 @@ use Rattle.records.specs.Records.{decode}
 use Rattle.records.specs.Lines.{lines_of, sent_line, bad_line}
 use Rattle.records.proofs.SizeLaws.{decode-sized, decode-append}
 use Rattle.replay.specs.Replay.{record_of, replay_at, replay_for, replay}
-use Rattle.player.specs.Stands.{replay_from, MayCome, Enough, to_come, Lines}
+use Rattle.player.specs.Stands.{replay_from, MayCome, Enough, Lines}
 use Rattle.player.specs.Turns.{gathered_max, kept_at, flushed}
 
 -- ---- how many records may be counted

@@ -4,10 +4,9 @@
 --     acted-end, acted-bad, acted-good   what was decoded is played
 --     kept-few, turned         few lines are kept before a record; one turn whole
 --     still, reached-none, reached-more, reached-all, reached-over   turns one after another, until the run is over
-use Prim.Native.Nat.{ℕ, zero, suc, ◌+◌, ◌-◌, ◌*◌, ◌≤◌, ◌<◌, min}
+use Prim.Native.Nat.{ℕ, ◌+◌, ◌-◌, ◌≤◌, ◌<◌}
 use mathlib.Core.Path.{◌≡◌, refl, ap, ◌∙◌, sym, subst}
 use mathlib.Core.Bool.{Bool, true, false}
-use mathlib.Core.Logic.{◌⊎◌, inl, inr}
 use mathlib.Core.List.{List, [], ◌++◌, append_assoc, append-nil}
 use native.Mathlib.Omega.{arith}
 use lib.ListN.{length, take, drop, length-drop, length-append}
@@ -29,11 +28,11 @@ use Rattle.replay.specs.declared.Played.{Played}
 use Rattle.replay.specs.Replay.{record_of}
 use Rattle.replay.specs.Plays.{Plays}
 use Rattle.window.specs.declared.Window.{Window}
-use Rattle.window.specs.Window.{window_of, Inside, Refilled, Passed}
+use Rattle.window.specs.Window.{window_of, Inside, Refilled}
 use Rattle.window.proofs.WindowLaws.{window-part, length-window, window-pass}
 use Rattle.player.specs.declared.Run.{Run}
-use Rattle.player.specs.Stands.{Enough, Lines, Stands, Holds, offset_end, run_at}
-use Rattle.player.specs.Turns.{gathered_max, room_min, kept_at, flushed, size_of, Ends, Went, Acted, Turned, Reached}
+use Rattle.player.specs.Stands.{Enough, Lines, Stands, offset_end, run_at}
+use Rattle.player.specs.Turns.{gathered_max, kept_at, flushed, size_of, Ends, Went, Acted, Turned, Reached}
 use Rattle.player.proofs.ReplayLaws.{lines-refill, lines-flush, lines_end, lines-bad, lines-good}
 
 pub line-room : {x y : List ℕ} {i j : ℕ} {l : List ℕ} → Prints x i l y j → length l ≤ line_max → i + line_max ≤ length x → j ≤ length y

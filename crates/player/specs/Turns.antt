@@ -8,6 +8,7 @@
 --     Fresh m t u l            the tables of a fresh machine
 --     Acted, Turned            what was decoded is played, and one turn whole: where the run stood before, it stands after
 --     Reached, Printed, unread, Replayed   so it is after any number of turns, and for the whole input
+--     Untouched, Broken        the machine as it stood, and as some turns left it: where a read or a write fails
 -- Laws: proofs/StandLaws.antt. Assumes nothing: these are definitions.
 use Rattle.std.specs.Prelude.{ℕ, ◌+◌, ◌-◌, ◌*◌, ◌≤◌, ◌<◌, min, ◌≡◌, true, false, List, [], ◌++◌, length, take, replicate, leb}
 use Rattle.layout.specs.Choice.{pick}
@@ -128,3 +129,19 @@ pub record Replayed (x : List ℕ) (r : Last) (y : List ℕ) : Type 0 where
   pub buffer : List ℕ
   pub filled : Refilled record_max unread x window buffer
   pub printed : Printed (window_of window buffer) r y
+
+-- where a read or a write of a turn fails, the machine's tables are what they were
+pub record Untouched (m k t u l m' k' t' u' l' : List ℕ) : Type 0 where
+  pub mem : m' ≡ m
+  pub kinds : k' ≡ k
+  pub state : t' ≡ t
+  pub used : u' ≡ u
+  pub lens : l' ≡ l
+
+-- where a read or a write fails behind some turns, the machine stands as they left it; what the buffers hold then is not said
+pub record Broken (s : Run) (m k t u l x y m' k' t' u' l' : List ℕ) : Type 0 where
+  pub turns : ℕ
+  pub run : Run
+  pub input : List ℕ
+  pub out : List ℕ
+  pub reached : Reached turns s m k t u l x y run m' k' t' u' l' input out

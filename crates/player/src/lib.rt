@@ -1,12 +1,12 @@
-// A bench file replayed from any descriptor to any other: what is read is decoded and played record by record, and its lines are written.
+// A bench file replayed from any reader to any writer: what is read is decoded and played record by record, and its lines are written.
 // Promises: over all bytes read so far, the bytes handed to the write and those gathered are what `replay` prints up to there; a fresh
 // machine with the first record's kinds stands at the beginning; the last line is `replay`'s.
-// What the kit's own read and write do is not promised.
+// What the reader and the writer do is not promised. Where one of them fails, its error is answered; no other error comes.
 // Document 01, "The bench".
 
 #![tactic(auto)]
 
-ghost use Rattle.std.specs.Prelude.{◌≡◌, true, false, List, ℕ, ◌+◌, ◌-◌, ◌*◌, ◌≤◌, ◌<◌, min, length, take, drop, replicate};
+ghost use Rattle.std.specs.Prelude.{◌≡◌, true, false, List, ℕ, ◌+◌, ◌-◌, ◌*◌, ◌≤◌, ◌<◌, min, length, take, drop, replicate, IfOk, OnErr};
 ghost use Rattle.std.proofs.Math.Seq.{paste};
 ghost use Rattle.layout.specs.Layout.{desc_bytes, desc_words};
 ghost use Rattle.layout.specs.Choice.{pick};
@@ -16,13 +16,15 @@ ghost use Rattle.records.specs.Lines.{line_max, sent_line, bad_line};
 ghost use Rattle.window.specs.Window.{window_of, Inside};
 ghost use Rattle.player.specs.Stands.{Enough, Stands, Holds, offset_end, run_at};
 ghost use Rattle.player.specs.Turns.{gathered_max, room_min, kept_at, size_of, kinds_of, kinds_in, Ends, Went, Begun, Fresh};
-ghost use Rattle.player.specs.Turns.{Acted, Turned, Reached, Printed, Replayed};
+ghost use Rattle.player.specs.Turns.{Acted, Turned, Reached, Printed, Replayed, Untouched, Broken};
 
 use controller::Controller;
 use layout::{DESC_BYTES, DESC_WORDS, Lengths, Words};
 use records::{Decoded, RAM_MAX, RECORD_MAX, Record, decode_record, put_bad};
 use registers::{STATE, State};
 use replay::{Played, play, put_totals};
+use std::io;
+use std::io::{Read, Write};
 use window::{Window, pass, refill};
 
 // Lines are written out where more than this many bytes of them are gathered.
@@ -80,41 +82,44 @@ fn no_lengths() -> Lengths
 }
 
 // Writes the lines that end there.
-fn emit(to: i32, out: &[u8], end: usize)
+fn emit<W: Write>(to: &mut W, out: &[u8], end: usize) -> io::Result<()>
     requires { end ≤ length out.now }
 {
-    io::write_all(to, &out[0..end]);
+    to.write_all(&out[0..end])
 }
 
-// Writes the lines gathered so far where they are many, and gives how many bytes of them are kept.
-fn flush(to: i32, out: &[u8], at: usize) -> usize
+// Writes the lines gathered so far where they are many, and gives how many bytes of them are kept. It fails only where they are many.
+fn flush<W: Write>(to: &mut W, out: &[u8], at: usize) -> io::Result<usize>
     requires { at ≤ length out.now }
-    ensures { result ≡ kept_at at }
+    ensures kept { IfOk result (λ n. n ≡ kept_at at) }
+    ensures failed { OnErr result (gathered_max < at) }
 {
     if at <= GATHERED {
-        return at;
+        return Ok(at);
     }
-    emit(to, out, at);
-    0
+    emit(to, out, at)?;
+    Ok(0)
 }
 
-// The last line, behind those gathered, is written out with them.
-fn finish_sent(to: i32, out: &mut [u8], at: usize, c: Controller) -> usize
+// The last line, behind those gathered, is written out with them. Where the write fails it stands there all the same.
+fn finish_sent<W: Write>(to: &mut W, out: &mut [u8], at: usize, c: Controller) -> io::Result<usize>
     requires { at + line_max ≤ length out.old }
-    ensures { Ends out.old at (sent_line c.sent c.received) out.new result }
+    ensures ends { IfOk result (λ end. Ends out.old at (sent_line c.sent c.received) out.new end) }
+    ensures failed { OnErr result ((end : ℕ) × Ends out.old at (sent_line c.sent c.received) out.new end) }
 {
     let end = put_totals(c, out, at);
-    emit(to, out, end);
-    end
+    emit(to, out, end)?;
+    Ok(end)
 }
 
-fn finish_bad(to: i32, out: &mut [u8], at: usize, offset: u64) -> usize
+fn finish_bad<W: Write>(to: &mut W, out: &mut [u8], at: usize, offset: u64) -> io::Result<usize>
     requires { at + line_max ≤ length out.old }
-    ensures { Ends out.old at (bad_line offset) out.new result }
+    ensures ends { IfOk result (λ end. Ends out.old at (bad_line offset) out.new end) }
+    ensures failed { OnErr result ((end : ℕ) × Ends out.old at (bad_line offset) out.new end) }
 {
     let end = put_bad(out, at, offset);
-    emit(to, out, end);
-    end
+    emit(to, out, end)?;
+    Ok(end)
 }
 
 // The offset after a record of n bytes: it stops at the largest.
@@ -167,9 +172,9 @@ fn go_on(p: Played, w: Window, n: usize, offset: u64) -> Run
     }
 }
 
-// What was decoded is played, or ends the run.
-fn act(
-    to: i32,
+// What was decoded is played, or ends the run. It fails only where the run ends, and then the machine stands as it stood.
+fn act<W: Write>(
+    to: &mut W,
     d: Decoded,
     w: Window,
     c: Controller,
@@ -181,23 +186,37 @@ fn act(
     out: &mut [u8],
     at: usize,
     offset: u64,
-) -> Run
+) -> io::Result<Run>
     requires { (w.from + size_of d ≤ w.len) × (at ≤ gathered_max) × (room_min ≤ length out.old) }
-    ensures { Acted d w c at offset m.old kinds.old t.old used.old lens.old
-        out.old result
-        m.new kinds.new t.new used.new lens.new out.new }
+    ensures acted { IfOk result (λ r. Acted d w c at offset m.old kinds.old t.old used.old lens.old
+        out.old r
+        m.new kinds.new t.new used.new lens.new out.new) }
+    ensures failed { OnErr result ((size_of d ≡ 0) × Untouched m.old kinds.old t.old used.old lens.old
+        m.new kinds.new t.new used.new lens.new) }
 {
     match d {
-        Decoded::End => stop(c, finish_sent(to, out, at, c), w, offset),
-        Decoded::Bad => stop(c, finish_bad(to, out, at, offset), w, offset),
-        Decoded::Good(r, n) => { go_on(play(r, c, m, kinds, t, used, lens, out, at), w, n, offset) }
+        Decoded::End => {
+            let end = finish_sent(to, out, at, c)?;
+            Ok(stop(c, end, w, offset))
+        }
+        Decoded::Bad => {
+            let end = finish_bad(to, out, at, offset)?;
+            Ok(stop(c, end, w, offset))
+        }
+        Decoded::Good(r, n) => Ok(go_on(
+            play(r, c, m, kinds, t, used, lens, out, at),
+            w,
+            n,
+            offset,
+        )),
     }
 }
 
-// One turn: the window filled, the lines written where they are many, one record played.
-fn take_turn(
-    fd: i32,
-    to: i32,
+// One turn: the window filled, the lines written where they are many, one record played. Where the read or a write fails, the machine
+// stands as it stood.
+fn take_turn<R: Read, W: Write>(
+    source: &mut R,
+    to: &mut W,
     input: &mut [u8],
     s: Run,
     m: &mut [u8],
@@ -206,15 +225,17 @@ fn take_turn(
     used: &mut Words,
     lens: &mut Lengths,
     out: &mut [u8],
-) -> Run
+) -> io::Result<Run>
     requires { (record_max ≤ length input.old) × (room_min ≤ length out.old) × Holds s input.old out.old × (s.going ≡ true) }
-    ensures { Turned s m.old kinds.old t.old used.old lens.old
-        input.old out.old result
-        m.new kinds.new t.new used.new lens.new input.new out.new }
+    ensures turned { IfOk result (λ r. Turned s m.old kinds.old t.old used.old lens.old
+        input.old out.old r
+        m.new kinds.new t.new used.new lens.new input.new out.new) }
+    ensures failed { OnErr result (Untouched m.old kinds.old t.old used.old lens.old
+        m.new kinds.new t.new used.new lens.new) }
 {
     let old = s.window;
-    let w = refill(fd, input, RECORD_MAX, old);
-    let at = flush(to, out, s.at);
+    let w = refill(source, input, RECORD_MAX, old)?;
+    let at = flush(to, out, s.at)?;
     let d = next_record(input, w);
     act(to, d, w, s.ctl, m, kinds, t, used, lens, out, at, s.offset)
 }
@@ -230,10 +251,10 @@ fn turns_left(turns: u64, going: bool) -> u64
     0
 }
 
-// Turns until the run is over.
-fn replay_rest(
-    fd: i32,
-    to: i32,
+// Turns until the run is over. Where the read or a write of one fails, the machine stands as the turns before it left it.
+fn replay_rest<R: Read, W: Write>(
+    source: &mut R,
+    to: &mut W,
     input: &mut [u8],
     first: Run,
     m: &mut [u8],
@@ -242,21 +263,24 @@ fn replay_rest(
     used: &mut Words,
     lens: &mut Lengths,
     out: &mut [u8],
-) -> Run
+) -> io::Result<Run>
     requires { (record_max ≤ length input.old) × (room_min ≤ length out.old) × Holds first input.old out.old
         × (first.going ≡ true) × (0 < first.offset) }
-    ensures holds { Holds result input.new out.new }
-    ensures reached { Reached 0 first m.old kinds.old t.old used.old lens.old
-        input.old out.old result
-        m.new kinds.new t.new used.new lens.new input.new out.new }
+    ensures holds { IfOk result (λ r. Holds r input.new out.new) }
+    ensures reached { IfOk result (λ r. Reached 0 first m.old kinds.old t.old used.old lens.old
+        input.old out.old r
+        m.new kinds.new t.new used.new lens.new input.new out.new) }
+    ensures failed { OnErr result (Broken first m.old kinds.old t.old used.old lens.old
+        input.old out.old
+        m.new kinds.new t.new used.new lens.new) }
 {
     let mut s = first;
     let mut turns = u64::MAX;
     while 0 < turns {
-        s = take_turn(fd, to, input, s, m, kinds, t, used, lens, out);
+        s = take_turn(source, to, input, s, m, kinds, t, used, lens, out)?;
         turns = turns_left(turns, s.going);
     }
-    s
+    Ok(s)
 }
 
 // N of the first record: 0 where it is none.
@@ -325,10 +349,11 @@ fn last_of(r: Run) -> Last
     }
 }
 
-// The whole input, whose first bytes stand in the window, on the tables of a fresh machine.
-fn play_input(
-    fd: i32,
-    to: i32,
+// The whole input, whose first bytes stand in the window, on the tables of a fresh machine. Where a read or a write fails, nothing is
+// known of what the two buffers hold.
+fn play_input<R: Read, W: Write>(
+    source: &mut R,
+    to: &mut W,
     input: &mut [u8],
     w: Window,
     m: &mut [u8],
@@ -337,23 +362,24 @@ fn play_input(
     used: &mut Words,
     lens: &mut Lengths,
     out: &mut [u8],
-) -> Last
+) -> io::Result<Last>
     requires { (record_max ≤ length input.old) × (room_min ≤ length out.old) × (length kinds.old ≡ ram_max)
         × Inside w input.old × Enough (window_of w input.old) w.ended × Fresh m.old t.old used.old lens.old }
-    ensures { Printed (window_of w input.old) result out.new }
+    ensures printed { IfOk result (λ r. Printed (window_of w input.old) r out.new) }
+    ensures failed { OnErr result ((length input.new ≡ length input.old) × (length out.new ≡ length out.old)) }
 {
     let n = count_kinds(input, w);
     if n == 0 {
-        let end = finish_bad(to, out, 0, 0);
-        return Last {
+        let end = finish_bad(to, out, 0, 0)?;
+        return Ok(Last {
             end,
             ended: w.ended,
-        };
+        });
     }
     copy_kinds(input, w.from + KINDS_AT, kinds, n);
     let first = begin(w, n);
     let r = replay_rest(
-        fd,
+        source,
         to,
         input,
         first,
@@ -363,15 +389,22 @@ fn play_input(
         used,
         lens,
         out,
-    );
-    last_of(r)
+    )?;
+    Ok(last_of(r))
 }
 
-// All that is read from `fd` is replayed, and its lines are written to `to`. The two buffers are lent: the input has room for any record,
-// the output for the lines gathered and those of a record.
-pub fn replay_file(fd: i32, to: i32, input: &mut [u8], out: &mut [u8]) -> Last
+// All that is read from `source` is replayed, and its lines are written to `to`. The two buffers are lent: the input has room for any
+// record, the output for the lines gathered and those of a record. Where a read or a write fails its error is answered, and the buffers
+// keep their sizes: nothing is known of what they hold.
+pub fn replay_file<R: Read, W: Write>(
+    source: &mut R,
+    to: &mut W,
+    input: &mut [u8],
+    out: &mut [u8],
+) -> io::Result<Last>
     requires { (record_max ≤ length input.old) × (room_min ≤ length out.old) }
-    ensures { Replayed input.old result out.new }
+    ensures replayed { IfOk result (λ r. Replayed input.old r out.new) }
+    ensures failed { OnErr result ((length input.new ≡ length input.old) × (length out.new ≡ length out.old)) }
 {
     let mut m = descriptors();
     let mut kinds = kinds_table();
@@ -383,8 +416,8 @@ pub fn replay_file(fd: i32, to: i32, input: &mut [u8], out: &mut [u8]) -> Last
         len: 0,
         ended: false,
     };
-    let w = refill(fd, input, RECORD_MAX, none);
+    let w = refill(source, input, RECORD_MAX, none)?;
     play_input(
-        fd, to, input, w, &mut m, &mut kinds, &mut t, &mut used, &mut lens, out,
+        source, to, input, w, &mut m, &mut kinds, &mut t, &mut used, &mut lens, out,
     )
 }

@@ -5,6 +5,7 @@
 --     shift-more           one byte more moved to the front
 --     refilled-enough, refilled-ended   a window that stays as it is
 --     refilled-read        one that was moved to the front and read into
+--     kept-read            one that was moved to the front, where the read failed
 use Prim.Native.Nat.{ℕ, zero, suc, ◌+◌, ◌-◌, ◌≤◌, ◌<◌}
 use mathlib.Core.Path.{◌≡◌, refl, ap, ◌∙◌, sym}
 use mathlib.Core.Bool.{Bool, true, false, not}
@@ -13,15 +14,17 @@ use mathlib.Core.List.{List, [], ◌∷◌, ◌++◌}
 use native.Mathlib.Nat.{zero-add}
 use native.Mathlib.Numerals.{add-one}
 use native.Mathlib.Omega.{arith}
-use lib.ListN.{length, get_or, set, take, drop, length-drop, length-append, length-take}
-use lib.Seq.{paste, take-paste, paste-suc, length-paste, take-nil, drop-nil, length-take-le}
+use lib.ListN.{length, get_or, set, take, drop, length-drop}
+use lib.Seq.{paste, take-paste, paste-suc, length-paste, take-nil, length-take-le}
 use lib.Seq.{length-slice, drop-drop, get_or-drop, take-append-add, take-append-le, get_or-append-add}
 use lib.Dec.{ltb}
 use borrow.Author.Tests.{ltb-true, ltb-false, lt-ltb, le-ltb}
 use Rattle.layout.specs.Choice.{pick, both}
+use Rattle.std.proofs.Common.{le_refl}
+use Rattle.std.proofs.lemmas.Slice.{take-put_mid_below}
 use borrow.Rule.Slice.PartMut.{mid_of, post_of, put_mid, same_len_mid, mid_len}
 use Rattle.window.specs.declared.Window.{Window}
-use Rattle.window.specs.Window.{window_of, Inside, lacks, Refilled, Passed}
+use Rattle.window.specs.Window.{window_of, Inside, lacks, Refilled, Kept, Passed}
 
 append-none : (l : List ℕ) → l ++ [] ≡ l
 append-none [] = refl
@@ -189,4 +192,12 @@ module _ (wanted : ℕ) (w : Window) (x x1 ys : List ℕ) (got : ℕ) (h : Insid
     enough = enough-at t (sym f);
     stays = λ y. clash y n;
     ends = f ∙ ends_is less n;
+  }
+
+  pub kept-read : w.len - w.from < wanted → w.ended ≡ false → Kept wanted w x read_into
+  kept-read less n = record {
+    lacking = rw (lt-ltb (w.len - w.from) wanted less, n) refl;
+    bytes = take-put_mid_below left_over (length x1 - left_over) x1 ys left_over (le_refl left_over)
+        (omega (arith, length_moved, h.within)) ∙ front-is;
+    size = length-read_into;
   }

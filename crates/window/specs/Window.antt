@@ -3,6 +3,7 @@
 --     Inside w x                the window lies in the buffer
 --     lacks wanted w            the window is to be read into
 --     Refilled wanted w x r y   w of the buffer x became r of the buffer y: its bytes are kept, `got` stands behind them
+--     Kept wanted w x y         w of the buffer x was to be read into and the read failed: its bytes stand in front of the buffer y
 --     Passed w n r              r is w without its first n bytes
 -- Laws: proofs/WindowLaws.antt. Assumes nothing: these are definitions.
 use Rattle.std.specs.Prelude.{ℕ, ◌+◌, ◌-◌, ◌≤◌, ◌≡◌, Bool, true, not, ◌⊎◌, List, [], ◌++◌, length, take, drop, ltb}
@@ -28,6 +29,11 @@ pub record Refilled (wanted : ℕ) (w : Window) (x : List ℕ) (r : Window) (y :
   pub enough : (wanted ≤ length (window_of r y)) ⊎ (r.ended ≡ true)
   pub stays : w.ended ≡ true → (got ≡ []) × (r.ended ≡ true)
   pub ends : r.ended ≡ pick (lacks wanted w) (ltb (w.len - w.from + length got) (length x)) w.ended
+
+pub record Kept (wanted : ℕ) (w : Window) (x y : List ℕ) : Type 0 where
+  pub lacking : lacks wanted w ≡ true
+  pub bytes : take (w.len - w.from) y ≡ window_of w x
+  pub size : length y ≡ length x
 
 pub record Passed (w : Window) (n : ℕ) (r : Window) : Type 0 where
   pub from : r.from ≡ w.from + n

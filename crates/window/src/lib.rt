@@ -1,16 +1,20 @@
 // A window over any input: the bytes that were read and are not yet taken, in a lent buffer.
 // Promises: a window that is filled holds the bytes that it held, in front, and behind them those that the read put there; afterwards it
 // has as many bytes as are wanted, or the input has ended. What the read puts there is what was read: no contract can say more of it.
+// Where a read fails, its error is answered, and the bytes that the window held stand in front of the buffer.
 // Document 01, "The bench".
 
 #![tactic(auto)]
 
-ghost use Rattle.std.specs.Prelude.{◌≡◌, ◌+◌, ◌-◌, ◌≤◌, length, drop};
+ghost use Rattle.std.specs.Prelude.{◌≡◌, ◌+◌, ◌-◌, ◌≤◌, length, drop, IfOk, OnErr};
 ghost use Rattle.std.proofs.Math.Seq.{paste};
-ghost use Rattle.window.specs.Window.{window_of, Inside, Refilled, Passed};
+ghost use Rattle.window.specs.Window.{window_of, Inside, Refilled, Kept, Passed};
+
+use std::io;
+use std::io::Read;
 
 // The part of a buffer that is still to be taken, and whether the input has been read to its end.
-#[derive(Drop)]
+#[derive(Clone, Copy)]
 pub struct Window {
     pub from: usize,
     pub len: usize,
@@ -30,28 +34,50 @@ fn shift(buf: &mut [u8], from: usize, len: usize)
     }
 }
 
-// The window with as many bytes as are wanted, or all that is left of the input. It reads only where there are fewer.
-pub fn refill(fd: i32, buf: &mut [u8], wanted: usize, w: Window) -> Window
+// Reads until the buffer is full or the input ends, and gives how many bytes stand in front of it.
+fn read_full<R: Read>(source: &mut R, buf: &mut [u8]) -> io::Result<usize>
+    ensures { IfOk result (λ n. n ≤ length buf.new) }
+{
+    let mut done: usize = 0;
+    while done < buf.len() {
+        let n = source.read(&mut buf[done..])?;
+        if n == 0 {
+            break;
+        }
+        done += n;
+    }
+    Ok(done)
+}
+
+// The window with as many bytes as are wanted, or all that is left of the input. It reads only where there are fewer. An error comes only
+// from such a read; then nothing of the window is lost: its bytes stand in front of the buffer.
+pub fn refill<R: Read>(
+    source: &mut R,
+    buf: &mut [u8],
+    wanted: usize,
+    w: Window,
+) -> io::Result<Window>
     requires { (wanted ≤ length buf.old) × Inside w buf.old }
-    ensures { Refilled wanted w buf.old result buf.new }
+    ensures filled { IfOk result (λ r. Refilled wanted w buf.old r buf.new) }
+    ensures failed { OnErr result (Kept wanted w buf.old buf.new) }
 {
     let from = w.from;
     let len = w.len;
     let left = len - from;
     if wanted <= left {
-        return w;
+        return Ok(w);
     }
     if w.ended {
-        return w;
+        return Ok(w);
     }
     shift(buf, from, len);
     let room = buf.len() - left;
-    let got = io::read_full(fd, &mut buf[left..]);
-    Window {
+    let got = read_full(source, &mut buf[left..])?;
+    Ok(Window {
         from: 0,
         len: left + got,
         ended: got < room,
-    }
+    })
 }
 
 // The window behind its first n bytes.
