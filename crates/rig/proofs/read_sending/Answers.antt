@@ -34,4 +34,5 @@ unfolding sending_by
 returns-in-6 c = sending-tag c.args.w c.in-6.is refl
 
 pub returns-in_default : goal.returns-in_default
-returns-in_default c = sending-rest c.args.w (at c.args.w 0) (omega arith) (omega arith) (omega arith) (omega arith) (omega arith) (omega arith) (omega arith)
+returns-in_default c = sending-rest c.args.w (at c.args.w 0) (omega arith) (omega arith) (omega arith) (omega arith) (omega arith)
+    (omega arith) (omega arith)
