@@ -82,10 +82,11 @@ class Antt:
 
 def module(path, crate):
     """The crate and the file, or the declared type, of a module's path; nothing for the kit's library."""
-    if not path.startswith("Rattle·"):
+    if not path.startswith("Rattle."):
         return None
-    first, *rest = path[len("Rattle·"):].split(".")
-    owner = first.split("·")[0]
+    owner, *rest = path[len("Rattle."):].split(".")
+    if not (CRATES / owner).is_dir():
+        return None
     if "declared" in rest:
         return (owner, "declared", rest[rest.index("declared") + 1])
     if "specs" in rest:
@@ -104,14 +105,21 @@ for path in sorted(CRATES.glob("*/src/*.rt")):
         TYPES.setdefault(crate, {})[found.group(1) or found.group(2)] = plain(found.group(0).splitlines(), "//")
 
 
+def used_in(text):
+    """The names that a source uses, each with the crate that its path begins with."""
+    for path, names in re.findall(r"^use ((?:\w+::)+)(\{[^}]*\}|\w+);", text, re.M):
+        for name in re.findall(r"\w+", names):
+            yield name, path.split("::")[0]
+
+
 def owner_of(crate, name):
     """The crate whose struct, enum or array type a name stands for, seen from a crate."""
     if name in TYPES.get(crate, {}):
         return crate
     for text in SOURCES.get(crate, []):
-        found = re.search(r"^use (\w+)::(?:\w+::)*" + name + r";", text, re.M)
-        if found and name in TYPES.get(found.group(1), {}):
-            return found.group(1)
+        for used, owner in used_in(text):
+            if used == name and name in TYPES.get(owner, {}):
+                return owner
     return None
 
 

@@ -1,7 +1,8 @@
 #!/usr/bin/env python3
 """Holds docs/PROMISES.md to the sources: every public function has one row, and each of its columns is so: the definition stands in
 the function's own promise, what it asks is what it requires, the theorem is declared where it is said to be, every edit is one of the
-crate's. A function that no other crate uses is not public. The figures of docs/ARCHITECTURE.md are those of tests/believed.py.
+crate's. A function that is exported to C has no row: it says word for word what the library's function of its name says, and calls it.
+A function that no other crate uses is not public. The figures of docs/ARCHITECTURE.md are those of tests/believed.py.
 docs/RULES.md has its own check, rules_check.py."""
 import pathlib
 import re
@@ -44,8 +45,10 @@ class Function:
         self.name = found.group(2)
         self.full = f"{crate}::{prefix}{self.name}"
         self.exported = bool(found.group(1))
-        head, _, self.ensures = found.group(0).partition("ensures")
+        self.parameters, _, self.contract = found.group(0).partition("fn " + self.name)[2].partition(")")
+        head, _, self.ensures = self.contract.partition("ensures")
         self.requires = head.partition("requires")[2]
+        self.body = found.group(3)
 
 
 def functions():
@@ -55,7 +58,7 @@ def functions():
         files = [(root, "")] + [(root.parent / (n + ".rt"), n + "::") for n in re.findall(r"^pub mod (\w+);", text, re.M)]
         for path, prefix in files:
             source = path.read_text(encoding="utf-8")
-            for found in re.finditer(r"^pub (extern \"C\" )?fn (\w+).*?(?=^\{)", source, re.M | re.S):
+            for found in re.finditer(r"^pub (extern \"C\" )?fn (\w+).*?(?=^\{\n(.*?)^\})", source, re.M | re.S):
                 yield Function(root.parts[-3], prefix, found)
 
 
@@ -96,6 +99,8 @@ def promises(wrong):
             wrong.append(f"docs/PROMISES.md: {name} has two rows")
         rows[name] = cells[1:]
     for f in functions():
+        if f.exported:
+            continue
         row = rows.pop(f.full, None)
         if row is None:
             wrong.append(f"docs/PROMISES.md: {f.full} has no row")
@@ -125,6 +130,30 @@ def promises(wrong):
     wrong += [f"docs/PROMISES.md: {n} is no public function" for n in rows]
 
 
+def exported(wrong):
+    """Each function that is exported to C, in a crate NAME_c, says what NAME's function of that name says, and does nothing but call it."""
+    inner = {(f.crate, f.name): f for f in functions() if not f.exported}
+    outer = [f for f in functions() if f.exported]
+    if not outer:
+        wrong.append("no function is exported to C")
+    for f in outer:
+        crate = f.crate.removesuffix("_c")
+        own = inner.get((crate, f.name))
+        if own is None or crate == f.crate:
+            wrong.append(f"{f.full} is exported to C, and crate {crate} has no such function")
+            continue
+        if (f.parameters, f.contract) != (own.parameters, own.contract):
+            wrong.append(f"{f.full} does not say what {own.full} says")
+        call = "%s(%s)" % (own.full, ", ".join(re.findall(r"(\w+):", f.parameters)))
+        if f.body.strip().rstrip(";") != call:
+            wrong.append(f"{f.full} is not {call}")
+
+
+# Begun and used by no crate yet (docs/PORT.md): each is proved, has its row, and must find its use or go.
+BEGUN = ("phases::engine_at", "soundness::is_sound")
+
+# what a source uses of a crate, by name
+USES = re.compile(r"^(?:pub )?use ((?:\w+::)+)(\{[^}]*\}|\w+);", re.M)
 
 
 def used(wrong):
@@ -132,13 +161,15 @@ def used(wrong):
     calls = {}
     for path in TOP.glob("crates/*/src/*.rt"):
         text = path.read_text(encoding="utf-8")
-        calls.setdefault(path.parts[-3], []).append((text, re.sub(r"^(?:use|pub use|ghost use|//).*$", "", text, flags=re.M)))
+        names = {(place.split("::")[0], name) for place, found in USES.findall(text) for name in re.findall(r"\w+", found)}
+        code = re.sub(r"^(?:ghost use|//).*$", "", USES.sub("", text), flags=re.M)
+        names |= set(re.findall(r"\b(\w+)::(?:\w+::)*(\w+)\(", code))
+        calls.setdefault(path.parts[-3], []).append((names, code))
     for f in functions():
-        if f.exported:
+        if f.exported or f.full in BEGUN:
             continue
-        path = re.compile(r"\b" + f.crate + r"::(?:\w+::)*" + f.name + r"\b")
         call = re.compile(r"\b" + f.name + r"\(")
-        if not any(path.search(text) and call.search(code) for crate, files in calls.items() if crate != f.crate for text, code in files):
+        if not any((f.crate, f.name) in names and call.search(code) for crate, files in calls.items() if crate != f.crate for names, code in files):
             wrong.append(f"{f.full} is public, and no other crate uses it")
 
 
@@ -151,7 +182,7 @@ def figures(wrong):
 
 def main():
     wrong = []
-    for check in (promises, used, figures):
+    for check in (promises, exported, used, figures):
         check(wrong)
     for w in wrong:
         print(w)

@@ -4,7 +4,8 @@ behind them the file: `name`, `name` in `file`; then `; ` and the next. Files ar
 that file and in no other:
   a definition in a specs/ file, as a public definition;
   a function in a src/ file, by its last part (its first is the crate), as fn, const, type, struct or enum;
-  a theorem in a proofs/ file, as `NAME :`; a case in a .rs file, as "NAME" or as fn; an edit is a file by itself.
+  a theorem in a proofs/ file, as `NAME :`; a function that keeps its promise, in a src/ file, as a fn with an `ensures`; a case in a .rs file,
+  as "NAME" or as fn; an edit is a file by itself.
 Also: sections and rules are numbered one after the other, from 1 (rules of the section of answers: from 0, so that rule 5.n is answer n); the index
 names every section; a rule that another one refers to is there; a cell is `-` only where the rule says that there is none; and every public
 definition of a specs/ folder has a row, with its own file.
@@ -37,6 +38,15 @@ def stands(pattern, name, file):
     return re.search(pattern % re.escape(name), text_of(file), re.M) is not None
 
 
+def promises(parts, file):
+    """Whether a source has a function of that name, of its type where the name has one, with a promise of its own."""
+    text = text_of(file)
+    if len(parts) > 2 and parts[-2][0].isupper():
+        text = "\n".join(re.findall(r"^impl %s \{$.*?^\}$" % parts[-2], text, re.M | re.S))
+    found = re.search(r"^( *)(?:pub )?fn %s\b.*?(?=^\1\{$)" % re.escape(parts[-1]), text, re.M | re.S)
+    return found is not None and re.search(r"^ *ensures\b", found.group(0), re.M) is not None
+
+
 def is_there(column, name, file):
     """What is wrong with a name that should stand in a file, or ''."""
     if column == "definition":
@@ -50,6 +60,11 @@ def is_there(column, name, file):
         if parts[0] != file.split("/")[0] or len(parts) < 2:
             return "does not begin with the crate of %s" % file
         return "" if stands(r"^ *(?:pub )?(?:extern \"C\" )?(?:fn|const|type|struct|enum) %s\b", parts[-1], file) else "is not in %s" % file
+    if "/src/" in file and file.endswith(".rt"):
+        parts = name.split("::")
+        if parts[0] != file.split("/")[0] or len(parts) < 2:
+            return "does not begin with the crate of %s" % file
+        return "" if promises(parts, file) else "is no function with a promise in %s" % file
     if file.endswith(".rs"):
         return "" if stands(r"\"%s\"", name, file) or stands(r"^ *fn %s\b", name, file) else "is no case of %s" % file
     if "/specs/" in file:  # one line of a statement that is proved as a whole

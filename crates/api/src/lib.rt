@@ -50,8 +50,7 @@ fn pack(a: Answer) -> u32
 }
 
 // A fresh book and zero registers, as when the machine starts.
-#[unsafe(no_mangle)]
-pub extern "C" fn gresomund_fresh(state: &mut State, used: &mut Words, lens: &mut Lengths)
+pub fn gresomund_fresh(state: &mut State, used: &mut Words, lens: &mut Lengths)
     ensures { (state.new ≡ fresh_state) × (used.new ≡ fresh_used) × (lens.new ≡ fresh_lens) }
 {
     *state = [0; STATE];
@@ -60,8 +59,7 @@ pub extern "C" fn gresomund_fresh(state: &mut State, used: &mut Words, lens: &mu
 }
 
 // A write of Linux, on any state.
-#[unsafe(no_mangle)]
-pub extern "C" fn gresomund_guest_write(
+pub fn gresomund_guest_write(
     address: u32,
     value: u32,
     mem: &mut [u8],
@@ -79,8 +77,7 @@ pub extern "C" fn gresomund_guest_write(
 }
 
 // A write of Linux, on a state that is known to be fit and sound.
-#[unsafe(no_mangle)]
-pub extern "C" fn gresomund_guest_write_sound(
+pub fn gresomund_guest_write_sound(
     address: u32,
     value: u32,
     mem: &mut [u8],
@@ -100,8 +97,7 @@ pub extern "C" fn gresomund_guest_write_sound(
 }
 
 // The change of a block's kind, on any state.
-#[unsafe(no_mangle)]
-pub extern "C" fn gresomund_kind_change(
+pub fn gresomund_kind_change(
     block: u32,
     kind: u32,
     mem: &[u8],
@@ -119,8 +115,7 @@ pub extern "C" fn gresomund_kind_change(
 }
 
 // The change of a block's kind, on a state that is known to be fit and sound.
-#[unsafe(no_mangle)]
-pub extern "C" fn gresomund_kind_change_sound(
+pub fn gresomund_kind_change_sound(
     block: u32,
     kind: u32,
     mem: &[u8],

@@ -33,7 +33,8 @@ channels-next t r n all x y e ex ey = rw add-one (λ i. set (e i) n (both-phases
 pub channels-last : (t r : List (List ℕ)) {n : ℕ} (all : List Channel) → n ≡ channels → all ≡ channels_to n t r → all ≡ channels_in t r
 channels-last t r all h e = e ∙ ap (λ (k : ℕ). channels_to k t r) h
 
-pub tx-next : (x : List Channel) (t t' : List (List ℕ)) (n : ℕ) (w : List ℕ) → t' ≡ tx_to n x t → w ≡ sending_words (get_or x n idle_channel).tx
+pub tx-next : (x : List Channel) (t t' : List (List ℕ)) (n : ℕ) (w : List ℕ) → t' ≡ tx_to n x t
+    → w ≡ sending_words (get_or x n idle_channel).tx
     → set t' n w ≡ tx_to (n + 1) x t
 tx-next x t t' n w e ew = rw add-one (λ i. set (e i) n (ew i))
 

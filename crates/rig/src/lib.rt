@@ -22,17 +22,17 @@ use phases::{
 use registers::State;
 
 // A record is lent as its own table and stages, a row of words for each engine, and the rest: sent, received, undefined.
-type Stages = [u8; QUEUES];
+pub type Stages = [u8; QUEUES];
 
-type SendingRow = [u32; 8];
+pub type SendingRow = [u32; 8];
 
-type ReceivingRow = [u32; 9];
+pub type ReceivingRow = [u32; 9];
 
-type SendingRows = [SendingRow; CHANNELS];
+pub type SendingRows = [SendingRow; CHANNELS];
 
-type ReceivingRows = [ReceivingRow; CHANNELS];
+pub type ReceivingRows = [ReceivingRow; CHANNELS];
 
-type Rest = [u64; 3];
+pub type Rest = [u64; 3];
 
 // The word of a flag.
 fn flag_word(b: bool) -> u32
@@ -325,8 +325,7 @@ fn save_stepped(
 }
 
 // One step, on any record: of the reset (0), or on that channel of an engine (1, 2) or its teardown (3, 4).
-#[unsafe(no_mangle)]
-pub extern "C" fn gresomund_step(
+pub fn gresomund_step(
     engine: u8,
     channel: u8,
     mem: &mut [u8],
@@ -351,8 +350,7 @@ pub extern "C" fn gresomund_step(
 }
 
 // A write that no guard has judged, on any record.
-#[unsafe(no_mangle)]
-pub extern "C" fn gresomund_unguarded(
+pub fn gresomund_unguarded(
     address: u32,
     value: u32,
     mem: &mut [u8],
@@ -376,8 +374,7 @@ pub extern "C" fn gresomund_unguarded(
 }
 
 // A frame of n bytes comes, on any record.
-#[unsafe(no_mangle)]
-pub extern "C" fn gresomund_frame(
+pub fn gresomund_frame(
     n: u32,
     state: &mut State,
     stages: &mut Stages,
