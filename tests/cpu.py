@@ -5,6 +5,7 @@ usage: cpu.py run NAME COMMAND ..   runs the command, and ten times a second rea
                                     writes target/tests/cpu-NAME; its exit status is the command's
        cpu.py table                 prints what target/tests/cpu-rt-ci, cpu-more-edits and cpu-definition-edits hold
 A process is missed for the last tenth of a second of its life at most. The sum that the system counted stands beside the table.
+What rt keeps from earlier runs on this machine is not proved or tried again, and takes no time.
 """
 import os
 import pathlib
@@ -39,15 +40,15 @@ def is_below(pid, top):
 
 
 def crate_of(pid):
-    """The crate that a `rattle` works on, and whether for an edit of rt's own must-fail; or None."""
+    """The crate that a `rattle` works on, and whether for an edit that rt tries; or None."""
     try:
         words = pathlib.Path("/proc/%d/cmdline" % pid).read_bytes().decode("utf-8", "replace").split("\0")
+        folder = os.readlink("/proc/%d/cwd" % pid)
     except OSError:
         return None
-    if "--crate-name" not in words[:-2]:
+    if "--crate-name" not in words[:-1]:
         return None
-    at = words.index("--crate-name")
-    return words[at + 1], "edit" if "/target/must-fail/" in words[at + 2] else "proof"
+    return words[words.index("--crate-name") + 1], "edit" if os.path.basename(folder).startswith("rt-edit-") else "proof"
 
 
 def run(name, command):
@@ -109,10 +110,11 @@ def table():
     rows = []
     for name in names:
         proof = ci.get(name, {}).get("proof", (0, 0.0))[1]
-        runs, edits = ci.get(name, {}).get("edit", (0, 0.0))
+        edits = ci.get(name, {}).get("edit", (0, 0.0))[1]
+        own = len(list((top / "crates" / name / "must-fail").glob("*.edit")))
         further = sum(seconds for _, seconds in more.get(name, {}).values())
-        rows.append((proof, edits, runs, further, len(list((top / "tests" / "more-edits" / name).glob("*.edit")))))
-        print(form % (name, "%.1f" % proof, "%.1f" % edits, runs, "%.1f" % further, rows[-1][4]))
+        rows.append((proof, edits, own, further, len(list((top / "tests" / "more-edits" / name).glob("*.edit")))))
+        print(form % (name, "%.1f" % proof, "%.1f" % edits, own, "%.1f" % further, rows[-1][4]))
     sums = [sum(column) for column in zip(*rows)]
     print(form % ("all", "%.1f" % sums[0], "%.1f" % sums[1], sums[2], "%.1f" % sums[3], sums[4]))
     spent = sum(seconds for kinds in definitions.values() for _, seconds in kinds.values())

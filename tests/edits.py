@@ -1,11 +1,15 @@
 """What the runners of edits share: more-edits/run.py, definition-edits/run.py, edits_check.py."""
 import os
 import re
+import shutil
 import subprocess
 
 # where the prover or the front end refuses something, and what it says there
-PLACE = re.compile(r"^(?:note: )?(\S*):\d+:\d+: (error\b.*|it is not proved .*)", re.M)
-PART = re.compile(r"(?:crates/(\w+)/|must-fail/\w+/[^/]+/)?((?:specs|proofs|src)/.*)$")
+PLACE = re.compile(r"^(?:rt: )?(?:note: )?(\S*):\d+:\d+: (error\b.*|it is not proved .*)", re.M)
+PART = re.compile(r"(?:crates/(\w+)/)?((?:specs|proofs|src)/.*)$")
+# what rt says of one edit that it tried: `rt: must-fail CRATE/NAME.edit: refused, as it must be: PLACE: REFUSAL`
+TRIED = re.compile(r"^rt: must-fail (\w+)/(\S+)\.edit: (.*)$", re.M)
+GOOD = "refused, as it must be"
 # what only waits for something else that was refused
 WAITS = re.compile(r"was not admitted|it calls `[^`]*`, which is not proved")
 # the proof file no longer fits the code: an operation more or fewer, and no fact that fails
@@ -59,6 +63,17 @@ def restore(kept):
         target.write_text(text, encoding="utf-8")
 
 
+def copy_crates(repo, target):
+    """A copy of the crates and of what rt reads beside them, as the top of a repository of its own: without what checks made, and without edits."""
+    (target / ".git").mkdir(parents=True)
+    for crate in sorted((repo / "crates").iterdir()):
+        if crate.is_dir():
+            shutil.copytree(crate, target / "crates" / crate.name, ignore=shutil.ignore_patterns("out", "must-fail", "__pycache__"))
+    for name in ("crates.txt", "HANDLES"):
+        if (repo / name).is_file():
+            shutil.copy(repo / name, target / name)
+
+
 def run(command, folder, env):
     """The exit status of a command, and all that it printed."""
     done = subprocess.run(command, cwd=folder, env=env, stdout=subprocess.PIPE, stderr=subprocess.STDOUT, text=True, encoding="utf-8", errors="replace")
@@ -79,7 +94,7 @@ def errors_of(log):
 def no_fact(error):
     """Why a refusal is not the refusal of a fact, or ''."""
     _, file, what = error
-    said = re.sub(r"^error(?:\[\w+\])?: ", "", what)
+    said = re.sub(r"^error(?:\[[\w-]+\])?: ", "", what)
     if SHAPE.search(said[:600]):
         return "the shape of the code changed, and no fact is refused: %s: %s" % (file, what[:300])
     if ILL.search(re.sub(r"^(?:`[^`]*`: )+", "", said)[:70]):
@@ -87,15 +102,24 @@ def no_fact(error):
     return ""
 
 
-def judge(status, log):
-    """Whether an edit was refused for a fact, by the first refusal in the log; where and why, or what is wrong."""
-    if status == 0 or re.search(r"^logic=proved", log, re.M):
-        return False, "NOT REFUSED"
-    errors = errors_of(log)
-    if status != 1 or not re.search(r"^logic=not-proved", log, re.M) or not errors:
-        return False, "it did not reach the prover, exit status %d: %s" % (status, log[-300:])
+def tried(log):
+    """What a log of `rt ci` or `rt must-fail` says of each edit: {(crate, name): what}."""
+    return {(crate, name): said for crate, name, said in TRIED.findall(log)}
+
+
+def judge(said):
+    """Whether rt's word on an edit is that a fact was refused; where and why, or what is wrong."""
+    if not said.startswith(GOOD):
+        return False, said
+    why = said[len(GOOD):]
+    # `(only because a proof file names what the edit took away ..)`, `(only by a limit of the prover ..)`
+    if not why.startswith(": "):
+        return False, "it was not refused for a fact%s" % (why or ", and rt does not say why")
+    errors = errors_of(why[2:])
+    if not errors:
+        return False, "no fact was refused, what is said only waits for another refusal: %s" % why[2:]
     wrong = no_fact(errors[0])
-    return (False, wrong) if wrong else (True, "%s\n    %s" % (errors[0][1], errors[0][2]))
+    return (False, wrong) if wrong else (True, "%s: %s" % (errors[0][1], errors[0][2]))
 
 
 class Count:

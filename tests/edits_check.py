@@ -1,9 +1,9 @@
 #!/usr/bin/env python3
-"""What can be told of the edits without trying them, and what rt ci's own logs say of those in crates/*/must-fail.
+"""What can be told of the edits without trying them, and what rt ci's own log says of those in crates/*/must-fail.
 
 usage: edits_check.py texts   each edit, of every folder, says its rule, changes src/ or specs/ and no proof, and belongs to a crate that is listed;
                               each crate with a public function has one in its must-fail folder
-       edits_check.py logs    after rt ci: each of the crates' must-fail edits has a log, and was refused there for a fact
+       edits_check.py logs    after rt ci, whose output stands in target/tests/rt-ci.log: each of the crates' must-fail edits was refused for a fact
 One test each; last line 'N passed, M failed'.
 """
 import pathlib
@@ -68,20 +68,17 @@ def texts(count):
 
 def logs(count):
     paths = sorted(TOP.glob("crates/*/must-fail/*.edit"))
+    log = TOP / "target" / "tests" / "rt-ci.log"
+    tried = edits.tried(log.read_text(encoding="utf-8", errors="replace")) if log.is_file() else {}
     wrong = []
     for path in paths:
         crate = path.parent.parent.name
-        log = TOP / "target" / "must-fail" / crate / path.stem / ".log"
-        if not log.is_file():
-            wrong.append("%s/%s: it has no log" % (crate, path.stem))
-            continue
-        good, said = edits.judge(1, log.read_text(encoding="utf-8", errors="replace"))
+        good, said = edits.judge(tried.pop((crate, path.stem), "the log of rt ci does not name it"))
         if not good:
             wrong.append("%s/%s: %s" % (crate, path.stem, said))
-    for log in sorted(TOP.glob("target/must-fail/*/*/.log")):
-        if TOP / "crates" / log.parts[-3] / "must-fail" / (log.parts[-2] + ".edit") not in paths:
-            wrong.append("%s is the log of no edit" % log.relative_to(TOP))
-    report(count, "rt ci's must-fail edits were refused for a fact (%d logs)" % len(paths), wrong)
+    for crate, name in tried:
+        wrong.append("%s/%s: the log of rt ci names it, and it is no edit" % (crate, name))
+    report(count, "rt ci's must-fail edits were refused for a fact (%d edits)" % len(paths), wrong)
 
 
 def main():

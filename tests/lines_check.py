@@ -7,7 +7,8 @@ TOP = pathlib.Path(__file__).resolve().parent.parent
 MOST = 140
 long = [
     f"{path.relative_to(TOP)}:{number}: {len(line)} characters"
-    for path in sorted(TOP.glob("crates/**/*"))
+    for part in ("src", "specs", "proofs")
+    for path in sorted(TOP.glob(f"crates/*/{part}/**/*"))
     if path.suffix in (".rt", ".antt")
     for number, line in enumerate(path.read_text(encoding="utf-8").splitlines(), 1)
     if len(line) > MOST

@@ -7,7 +7,10 @@ import pathlib
 import re
 import shutil
 
-USE = re.compile(r"^(?:pub )?use Rattle·(\w+)(?:·(?:specs|proofs))?\.(specs|proofs)\.(\w+)", re.M)
+USE = re.compile(r"^(?:pub )?use Rattle\.(\w+)\.(specs|proofs)\.(\w+)", re.M)
+# where an item begins that is left out, and one that is read for the names it brings
+LEFT_OUT = re.compile(r"(?:pub )?(?:extern \"C\" )?(?:fn|impl)\b|(?:pub )?extern\b")
+NAMES = re.compile(r"([\w:]+)::(?:\{([^}]*)\}|(\w+));")
 
 
 def crates_of(repo):
@@ -21,36 +24,44 @@ def crates_of(repo):
     return out
 
 
-def types_of(text):
-    """A source file without functions and modules, and the imports that its types and constants use."""
-    kept, uses, skipping = [], [], False
+def items_of(text):
+    """The items of a source file, each with its attributes and the comment above it, as lists of lines."""
+    items, lines, depth = [], [], 0
     for line in text.splitlines():
-        if skipping:
-            skipping = line != "}"
+        bare = re.sub(r"//.*|'.'", "", line)
+        if not line.strip() and depth == 0:
             continue
-        if re.match(r"(pub )?(extern \"C\" )?(fn|impl)\b|pub extern", line):
-            skipping = not line.endswith("}")
-            continue
-        if re.match(r"(ghost use|mod|#!?\[)", line) or line.startswith("pub mod"):
-            continue
-        if line.startswith("use "):
-            uses.append(line)
-            continue
-        kept.append(line)
+        lines.append(line)
+        depth += sum(bare.count(c) for c in "([{") - sum(bare.count(c) for c in ")]}")
+        # a clause of a contract stands between a function's head and its body, so a line of its own never ends the item
+        ends = bare.rstrip().endswith((";", "}", "]")) and not bare.startswith("#[") and not line.startswith(" ")
+        if depth == 0 and ends or bare.startswith("#!["):
+            items.append(lines)
+            lines = []
+    return items
+
+
+def types_of(text):
+    """A source file without functions and modules, with the imports that its types and constants use."""
+    kept, uses = [], []
+    for lines in items_of(text):
+        first = next((line for line in lines if not line.startswith(("//", "#["))), lines[0])
+        whole = " ".join(line.strip() for line in lines if not line.startswith("//"))
+        if re.match(r"(?:pub )?use ", first):
+            uses += [(path, name.strip()) for path, many, one in NAMES.findall(whole) for name in (many or one).split(",") if name.strip()]
+        elif not LEFT_OUT.match(first) and not re.match(r"ghost use |(?:pub )?mod ", first):
+            kept += ["", *lines]
     body = "\n".join(kept)
     bare = re.sub(r"//.*", "", body)
-    names = [u for u in uses if not u.startswith("use crate") and re.search(r"\b%s\b" % re.escape(u.rstrip(";").split("::")[-1]), bare)]
+    names = ["use %s::%s;" % (path, name) for path, name in uses if not path.startswith("crate") and re.search(r"\b%s\b" % re.escape(name), bare)]
     return body + "\n", names
 
 
 def cut_source(source, target):
     target.mkdir(parents=True)
     body, uses = types_of((source / "lib.rt").read_text())
-    head = []
-    lines = body.split("\n")
-    while lines and lines[0].startswith("//"):
-        head.append(lines.pop(0))
-    (target / "lib.rt").write_text("\n".join(head + [""] + uses + lines))
+    at = body.index("#![tactic(auto)]") + len("#![tactic(auto)]")
+    (target / "lib.rt").write_text(body[:at].lstrip("\n") + "\n\n" + "\n".join(uses) + body[at:])
 
 
 def laws_needed(repo, names, roots):
