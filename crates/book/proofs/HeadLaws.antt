@@ -149,7 +149,8 @@ released-none : (w : ℕ → ℕ) (mode : Mode) (u : Uses) {x : ℕ} {v : Uses} 
     → released_all w mode [] v ≡ released_all w mode [] u
 released-none w mode u e = ap (λ (r : ROut). released_all w mode [] r.1) (e ∙ released-bad w u 0 mode good_ptr-zero)
 
-released-suc : (w : ℕ → ℕ) (mode : Mode) (hs : List ℕ) (u : Uses) (q : ℕ) {x : ℕ} {v : Uses} → (x, v) ≡ released_from w u (get_or hs q 0) mode
+released-suc : (w : ℕ → ℕ) (mode : Mode) (hs : List ℕ) (u : Uses) (q : ℕ) {x : ℕ} {v : Uses}
+    → (x, v) ≡ released_from w u (get_or hs q 0) mode
     → behind (take (suc q) (set hs q x)) (released_all w mode (drop (suc q) (set hs q x)) v)
     ≡ behind (take q hs) (released_all w mode (drop q hs) u)
 released-suc w mode [] u zero e = released-none w mode u e

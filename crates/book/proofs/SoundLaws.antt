@@ -82,7 +82,8 @@ module _ (w : ℕ → ℕ) (met : List ℕ) (p : ℕ) where
     unfolding walk_step
     walk_step-met h = simp (good-not-zero p g, g, ← at, h)
 
-    pub walk_step-go : {v : List ℕ} {next : ℕ} → free_at met d ≡ true → v ≡ add_four met d → next ≡ w d → go (v, next) ≡ walk_step w (met, p)
+    pub walk_step-go : {v : List ℕ} {next : ℕ} → free_at met d ≡ true → v ≡ add_four met d → next ≡ w d
+        → go (v, next) ≡ walk_step w (met, p)
     unfolding walk_step
     walk_step-go h l n = simp (good-not-zero p g, g, ← at, h, l, n)
 
@@ -234,7 +235,8 @@ pub all_two-more : (f : ℕ → ℕ → Bool) (a b : List ℕ) (i : ℕ) {t : Bo
     → both t (f (get_or a i 0) (get_or b i 0)) ≡ all_two f (take (i + 1) a) (take (i + 1) b)
 all_two-more f a b i h k e = rw (add-one, e) (sym (more-at f a b i h k))
 
-pub all_two-whole : (f : ℕ → ℕ → Bool) (a b : List ℕ) (i : ℕ) → length a ≤ i → length b ≤ i → all_two f (take i a) (take i b) ≡ all_two f a b
+pub all_two-whole : (f : ℕ → ℕ → Bool) (a b : List ℕ) (i : ℕ) → length a ≤ i → length b ≤ i
+    → all_two f (take i a) (take i b) ≡ all_two f a b
 all_two-whole f a b i h k = rw (take_all i a h, take_all i b k) refl
 
 -- ---- the tests of soundness, in their order

@@ -31,14 +31,15 @@ use Rattle.controller.specs.Controller.{unguarded_write, fresh_controller}
 use Rattle.machine.specs.Machine.{apply_write, apply_kind, apply_frame, apply_step, fresh_machine}
 
 unfoldable pub computing : Unit {0}
-unfolding set_bit clear_bit run side_of good_ptr word_of in_descriptors rule_of class_of class_at word_at put_word word put empty_set has free_at
-    add_four drop_four free_count words_in_use view fit_kinds room_for room_of touches sop eop owner eoq td packet_length length_of offset_of first_byte
-    flags_fault length_fault end_fault sum_fault behind next_fault own_fault fetch_fault put_length marked last_marked awaiting any_tearing reset_of
-    bit_of flags_fit loaded head_fault ack_fault teardown_fault reset_fault zero_fault tear_queue by_class register_fault head_written ack_written
-    written block_fault desc_fault judge_step chain_of walk_step walk_from walk_all first_step firsts_from sound take_one drop_one hand_over_step
-    taken_from plan release_step released_from released_all released_flags released_heads released_book fit_parts unfit sound_book sound_world
-    release answer_to judge_head judge_register last_of is_last judge_append judge_last judge_word judge_class judge admitted guest_write in_reception
-    kind_number judge_kind kind_change fetch read_burst close mark_eoq octets_of clear_own finish send_step transmit_step receive_step tear_mark
-    tear_step reset_step step_of frame_of register_write unguarded_write fresh_controller apply_write apply_kind apply_frame apply_step fresh_machine
-    rxFetch rxStore rxClose rxMarkLast rxMarkFirst rxFinish rxStep
+unfolding set_bit clear_bit run side_of good_ptr word_of in_descriptors rule_of class_of class_at word_at put_word word put empty_set has
+    free_at add_four drop_four free_count words_in_use view fit_kinds room_for room_of touches sop eop owner eoq td packet_length length_of
+    offset_of first_byte flags_fault length_fault end_fault sum_fault behind next_fault own_fault fetch_fault put_length marked last_marked
+    awaiting any_tearing reset_of bit_of flags_fit loaded head_fault ack_fault teardown_fault reset_fault zero_fault tear_queue by_class
+    register_fault head_written ack_written written block_fault desc_fault judge_step chain_of walk_step walk_from walk_all first_step
+    firsts_from sound take_one drop_one hand_over_step taken_from plan release_step released_from released_all released_flags released_heads
+    released_book fit_parts unfit sound_book sound_world release answer_to judge_head judge_register last_of is_last judge_append judge_last
+    judge_word judge_class judge admitted guest_write in_reception kind_number judge_kind kind_change fetch read_burst close mark_eoq
+    octets_of clear_own finish send_step transmit_step receive_step tear_mark tear_step reset_step step_of frame_of register_write
+    unguarded_write fresh_controller apply_write apply_kind apply_frame apply_step fresh_machine rxFetch rxStore rxClose rxMarkLast
+    rxMarkFirst rxFinish rxStep
 computing = tt

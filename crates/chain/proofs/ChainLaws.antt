@@ -119,7 +119,8 @@ module _ (kinds : List ℕ) (w : ℕ → ℕ) (pl : Place) (met : List ℕ) (p :
   judge_step-go t e = at (eqb (fault_at kinds w pl met p) 0) (eqb (w (word_of p)) 0) refl (sym fault_at-step ∙ e)
     where
       at : (a b : Bool) → eqb (fault_at kinds w pl met p) 0 ≡ a
-          → pick {A = Next JSt JOut} a (pick b (stop (0, 0, add_four met (word_of p))) (go onward)) (stop (fault_at kinds w pl met p, p, met))
+          → pick {A = Next JSt JOut} a (pick b (stop (0, 0, add_four met (word_of p))) (go onward))
+          (stop (fault_at kinds w pl met p, p, met))
           ≡ go t
           → (fault_at kinds w pl met p ≡ 0) × (onward ≡ t)
       at true true f q = let z : ◌≡◌ {A = ℕ} 0 1 = cc in absurd (omega arith)
@@ -131,7 +132,8 @@ module _ (kinds : List ℕ) (w : ℕ → ℕ) (pl : Place) (met : List ℕ) (p :
   judge_step-stop j e = at (eqb (fault_at kinds w pl met p) 0) (eqb (w (word_of p)) 0) (sym fault_at-step ∙ e)
     where
       at : (a b : Bool)
-          → pick {A = Next JSt JOut} a (pick b (stop (0, 0, add_four met (word_of p))) (go onward)) (stop (fault_at kinds w pl met p, p, met))
+          → pick {A = Next JSt JOut} a (pick b (stop (0, 0, add_four met (word_of p))) (go onward))
+          (stop (fault_at kinds w pl met p, p, met))
           ≡ stop j
           → ((0, 0, add_four met (word_of p)) ≡ j) ⊎ ((fault_at kinds w pl met p, p, met) ≡ j)
       at true true q = inl (cc)

@@ -128,7 +128,8 @@ module _ (kinds : List ℕ) (w : ℕ → ℕ) (pl : Place) (met : List ℕ) (p :
     step_less : (s : JSt) → x ≡ go s → (t : ℕ) → free_count met ≡ t → free_count s.1 < t
     step_less s g t μ = rw (← μ) (judge_step-falls kinds w (pl, met, p) s (sym is ∙ g))
 
-  module _ (h : TransmitHand) (l : List ℕ) (is : transmit_step h l ≡ judge_step kinds w (pl, met, p)) (g : TransmitHand) (given : h ≡ g) where
+  module _ (h : TransmitHand) (l : List ℕ) (is : transmit_step h l ≡ judge_step kinds w (pl, met, p))
+      (g : TransmitHand) (given : h ≡ g) where
     pub transmit-eq : rest (transmit_step g l) ≡ chain_of kinds w pl met p
     transmit-eq = step-eq (transmit_step g l) (rw given at is)
 

@@ -49,7 +49,8 @@ quiet-suc (x ∷ l) (suc i) h = at (quiet_channel x) (quiet-suc l i (le_of_suc-l
     at true e = e
     at false e = refl
 
-pub quiet-more : (l : List Channel) (i : ℕ) {a b : Bool} → i < length l → a ≡ all_quiet (take i l) → b ≡ quiet_channel (get_or l i idle_channel)
+pub quiet-more : (l : List Channel) (i : ℕ) {a b : Bool} → i < length l → a ≡ all_quiet (take i l)
+    → b ≡ quiet_channel (get_or l i idle_channel)
     → both a b ≡ all_quiet (take (i + 1) l)
 quiet-more l i h e f = rw (e, f, add-one i) (quiet-suc l i h)
 

@@ -15,16 +15,19 @@
 --     fresh_controller              "A fresh machine has zero descriptor memory and registers, .. idle engines, and awaits all four zeros"
 -- Registers and flags are a table (crate registers), as the guard's are; no head is ever set in it.
 -- Assumes nothing: these are definitions.
-use Rattle.std.specs.Prelude.{ℕ, ◌+◌, ◌-◌, ◌/◌, ◌%◌, min, Bool, true, false, not, List, [], ◌∷◌, length, get_or, set, replicate, eqb, leb, ltb}
+use Rattle.std.specs.Prelude.{ℕ, ◌+◌, ◌-◌, ◌/◌, ◌%◌, min, Bool, true, false, not, List, [], ◌∷◌, length, get_or, set, replicate, eqb, leb}
+use Rattle.std.specs.Prelude.{ltb}
 use Rattle.layout.specs.Choice.{pick, both}
-use Rattle.layout.specs.Layout.{desc_first, desc_bytes, length_max, good_ptr, word_of, in_descriptors, channels, queues, side_of, channel_of}
+use Rattle.layout.specs.Layout.{desc_first, desc_bytes, length_max, good_ptr, word_of, in_descriptors, channels, queues, side_of}
+use Rattle.layout.specs.Layout.{channel_of}
 use Rattle.layout.specs.Layout.{queue_of}
 use Rattle.layout.specs.Class.{class_at, hdp_class}
 use Rattle.layout.specs.declared.Side.{Side}
 use Rattle.layout.specs.declared.Side.TheVariants as Sides
 use Rattle.words.specs.Word.{put}
 use Rattle.marks.specs.Marks.{td_mark, marked}
-use Rattle.registers.specs.Table.{state_words, hdp_of, cp_of, tearing_of, awaiting, reset_of, set_hdp, set_cp, clear_tearing, set_reset_bit, unmarked}
+use Rattle.registers.specs.Table.{state_words, hdp_of, cp_of, tearing_of, awaiting, reset_of, set_hdp, set_cp, clear_tearing, set_reset_bit}
+use Rattle.registers.specs.Table.{unmarked}
 use Rattle.registers.specs.Rules.{teardown_done, register_fault, written}
 use Rattle.phases.specs.declared.Burst.{Burst}
 use Rattle.phases.specs.declared.Burst.TheVariants.{Quiet}

@@ -94,7 +94,8 @@ length-tests side x1 x2 x3 e =
 pub length_fault-length : (side : Side) (x1 x2 x3 : ℕ) → length_fault side x1 x2 x3 ≡ 0 → 1 ≤ length_of side x2
 length_fault-length side x1 x2 x3 e = omega (arith, eqb-false (length_of side x2) 0 (length-tests side x1 x2 x3 e).0)
 
-pub length_fault-end : (side : Side) (x1 x2 x3 : ℕ) → length_fault side x1 x2 x3 ≡ 0 → first_byte side x1 x2 x3 + length_of side x2 ≤ address_end
+pub length_fault-end : (side : Side) (x1 x2 x3 : ℕ) → length_fault side x1 x2 x3 ≡ 0
+    → first_byte side x1 x2 x3 + length_of side x2 ≤ address_end
 length_fault-end side x1 x2 x3 e = ltb-false _ _ (length-tests side x1 x2 x3 e).2
 
 pub length_fault-offset : (x1 x2 x3 : ℕ) → length_fault Receive x1 x2 x3 ≡ 0 → offset_of Receive x2 ≡ 0
@@ -139,7 +140,8 @@ behind-end Start x2 x3 s e = simp e
 behind-end (Middle p n) x2 x3 s e = simp e
 behind-end Buffer x2 x3 s e = let z : ◌≡◌ {A = ℕ} 0 1 = cc in absurd (omega arith)
 
-pub behind-inside : (pl : Place) (x2 x3 : ℕ) → side_at pl ≡ Transmit → eop x3 ≡ false → behind pl x2 x3 ≡ Middle (sop_at pl x3) (sum_at pl x2)
+pub behind-inside : (pl : Place) (x2 x3 : ℕ) → side_at pl ≡ Transmit → eop x3 ≡ false
+    → behind pl x2 x3 ≡ Middle (sop_at pl x3) (sum_at pl x2)
 unfolding behind
 behind-inside Start x2 x3 s e = simp e
 behind-inside (Middle p n) x2 x3 s e = simp e

@@ -7,7 +7,8 @@ use Rattle.layout.specs.Choice.{pick}
 use Rattle.layout.specs.Layout.{queues}
 use Rattle.layout.specs.Class.{hdp_class, cp_class, teardown_class, reset_class, passed_class, unoffered_class, unguarded_class}
 use Rattle.registers.specs.Table.{awaiting, set_tearing}
-use Rattle.registers.specs.Rules.{ack_fault, ack_written, tear_queue, teardown_number, reset_number, reset_written, zero_fault, register_fault}
+use Rattle.registers.specs.Rules.{ack_fault, ack_written, tear_queue, teardown_number, reset_number, reset_written, zero_fault}
+use Rattle.registers.specs.Rules.{register_fault}
 use Rattle.registers.specs.Rules.{written}
 use Rattle.registers.proofs.RegisterLaws.{by_class-low, by_class-ack, by_class-mid, by_class-teardown, by_class-reset, by_class-zero}
 use Rattle.registers.proofs.RegisterLaws.{by_class-passed, by_class-unoffered, by_class-unguarded}

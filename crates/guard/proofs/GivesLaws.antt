@@ -10,7 +10,8 @@
 --     write-refused, write-gives, write-sound   a whole guest write
 --     store_word, store-sound       a store to a free word, where there is nothing to release
 --     state-1, state-2, state-0     1 and 2 as the functions find them
-use Rattle.std.proofs.Common.{◌≡◌, ℕ, ◌+◌, ◌-◌, ◌/◌, ◌%◌, ◌<◌, ◌≤◌, Bool, true, false, not, eqb, ltb, ◌≢◌, List, length, sym, refl, ap, ◌∙◌, arith, le-ltb, lt-ltb, eq-eqb, ne_eqb, eqb-true}
+use Rattle.std.proofs.Common.{◌≡◌, ℕ, ◌+◌, ◌-◌, ◌/◌, ◌%◌, ◌<◌, ◌≤◌, Bool, true, false, not, eqb, ltb, ◌≢◌, List, length, sym, refl, ap, ◌∙◌}
+use Rattle.std.proofs.Common.{arith, le-ltb, lt-ltb, eq-eqb, ne_eqb, eqb-true}
 use borrow.Author.Tests.{not-true, not-false}
 use Rattle.layout.specs.Choice.{pick, both}
 use Rattle.layout.specs.Layout.{desc_first, desc_bytes, in_descriptors, queues, side_of, channel_of}
@@ -171,7 +172,8 @@ module _ (m k t u l : List ℕ) where
       → Gives (judge_class n v here) r m k t' u' l'
   unfolding judge_class
   class-head n v h e g =
-      gives_as (pick_true (ltb n (hdp_class + queues)) _ _ (lt-ltb n (hdp_class + queues) h) ∙ ap (λ (i : ℕ). judge_head i v here) (sym e)) g
+      gives_as (pick_true (ltb n (hdp_class + queues)) _ _ (lt-ltb n (hdp_class + queues) h) ∙ ap
+      (λ (i : ℕ). judge_head i v here) (sym e)) g
 
   ruled-at : (b : Bool) (j : ℕ) (t₁ : List ℕ) {r : Answer} {t' : List ℕ}
       → (r, t') ≡ pick {A = Answer × List ℕ} b (Accepted Plain, t₁) (Refused j, t)
@@ -318,7 +320,8 @@ module _ (m k t u l : List ℕ) where
   unfolding state_fault fit_parts
   zero-size {n} e h = at (eqb (length m) desc_bytes) (fit_kinds k) refl e
     where
-      at : (b c : Bool) → eqb (length m) desc_bytes ≡ b → n ≡ pick (both b c) (pick (sound_book (word m) t u l) 0 2) 1 → length m ≡ desc_bytes
+      at : (b c : Bool) → eqb (length m) desc_bytes ≡ b → n ≡ pick (both b c) (pick (sound_book (word m) t u l) 0 2) 1
+          → length m ≡ desc_bytes
       at true c x y = eqb-true (length m) desc_bytes x
       at false c x y = absurd (omega (arith, h, y))
 

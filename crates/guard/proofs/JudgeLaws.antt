@@ -3,7 +3,8 @@
 --     last-test, last-no                         whether it begins at a word
 --     tail-here, tail-next, tail_none            the queue whose last descriptor begins at a word, number by number
 --     tail-bound                                 it is one of them
-use Rattle.std.proofs.Common.{◌≡◌, ℕ, zero, suc, ◌+◌, ◌<◌, ◌≤◌, Bool, true, false, eqb, List, [], ◌∷◌, length, get_or, take, drop, sym, refl, ap, ◌∙◌, add-one, arith, eq-eqb, ne_eqb, eqb-true}
+use Rattle.std.proofs.Common.{◌≡◌, ℕ, zero, suc, ◌+◌, ◌<◌, ◌≤◌, Bool, true, false, eqb, List, [], ◌∷◌, length, get_or, take, drop, sym}
+use Rattle.std.proofs.Common.{refl, ap, ◌∙◌, add-one, arith, eq-eqb, ne_eqb, eqb-true}
 use borrow.Author.Tests.{eqb-false}
 use Rattle.layout.specs.Choice.{pick}
 use Rattle.layout.specs.Layout.{address_end, good_ptr, word_of, addr, descriptor_word, desc_words}

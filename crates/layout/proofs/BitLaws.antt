@@ -6,7 +6,8 @@
 --     set_bit-lt, clear_bit-lt             the word stays below a power of 2
 --     bits-same                          words with the same bits are the same
 -- A bit is reached by halving: bit k + 1 of w is bit k of w / 2, and setting it there is setting it here.
-use Rattle.std.proofs.Common.{◌≡◌, ℕ, zero, suc, ◌+◌, ◌-◌, ◌*◌, ◌/◌, ◌%◌, ◌^◌, ◌<◌, ◌≤◌, Bool, true, false, eqb, ◌≢◌, sym, refl, ap, ◌∙◌, div-one, arith, eq-eqb, ne_eqb, eqb-true}
+use Rattle.std.proofs.Common.{◌≡◌, ℕ, zero, suc, ◌+◌, ◌-◌, ◌*◌, ◌/◌, ◌%◌, ◌^◌, ◌<◌, ◌≤◌, Bool, true, false, eqb, ◌≢◌, sym, refl, ap, ◌∙◌}
+use Rattle.std.proofs.Common.{div-one, arith, eq-eqb, ne_eqb, eqb-true}
 use native.Mathlib.Nat.{pow-succ', div-div-eq-div-mul}
 use borrow.Author.Tests.{eqb-false}
 use Rattle.layout.specs.Choice.{pick}

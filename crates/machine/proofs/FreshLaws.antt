@@ -30,6 +30,7 @@ loaded-zeros : loaded fresh_controller.state fresh_state ≡ fresh_state
 unfolding loaded fresh_controller
 loaded-zeros = refl
 
-pub fresh-guard : (kinds : List ℕ) → world_of (fresh_machine kinds) ≡ world_at (replicate desc_bytes 0) kinds fresh_state fresh_used fresh_lens
+pub fresh-guard : (kinds : List ℕ)
+    → world_of (fresh_machine kinds) ≡ world_at (replicate desc_bytes 0) kinds fresh_state fresh_used fresh_lens
 unfolding fresh_machine
 fresh-guard kinds = ap (λ (t : List ℕ). world_at (replicate desc_bytes 0) kinds t fresh_used fresh_lens) loaded-zeros

@@ -28,13 +28,18 @@ use Rattle.words.specs.WordSet.{empty_set, has}
 use Rattle.words.proofs.WordLaws.{length-put}
 use Rattle.blocks.specs.Kinds.{fit_kinds}
 use Rattle.blocks.proofs.KindLaws.{set-keeps-fit_kinds}
-use Rattle.registers.specs.Table.{state_words, head_of, cp_of, awaiting, heads_of, flags_fit, set_head, set_hdp, set_cp, set_tearing, set_reset}
+use Rattle.registers.specs.Table.{state_words, head_of, cp_of, awaiting, heads_of, flags_fit, set_head, set_hdp, set_cp, set_tearing}
+use Rattle.registers.specs.Table.{set_reset}
 use Rattle.registers.specs.Table.{loaded}
 use Rattle.registers.specs.Rules.{by_class, tear_queue, head_number, register_fault, head_written, ack_written, reset_written, written}
-use Rattle.registers.proofs.TableLaws.{get_or-heads_of, length-set_head, heads_of-set_head, flags_fit-set_head, length-set_hdp, heads_of-set_hdp}
-use Rattle.registers.proofs.TableLaws.{flags_fit-set_hdp, length-set_cp, heads_of-set_cp, flags_fit-set_cp, length-set_marks, heads_of-set_marks}
-use Rattle.registers.proofs.TableLaws.{flags_fit-set_mark, length-set_tearings, heads_of-set_tearings, flags_fit-set_tearing, length-set_reset}
-use Rattle.registers.proofs.TableLaws.{heads_of-set_reset, flags_fit-set_reset, length-set_reset_bit, heads_of-set_reset_bit, flags_fit-set_reset_bit}
+use Rattle.registers.proofs.TableLaws.{get_or-heads_of, length-set_head, heads_of-set_head, flags_fit-set_head, length-set_hdp}
+use Rattle.registers.proofs.TableLaws.{heads_of-set_hdp}
+use Rattle.registers.proofs.TableLaws.{flags_fit-set_hdp, length-set_cp, heads_of-set_cp, flags_fit-set_cp, length-set_marks}
+use Rattle.registers.proofs.TableLaws.{heads_of-set_marks}
+use Rattle.registers.proofs.TableLaws.{flags_fit-set_mark, length-set_tearings, heads_of-set_tearings, flags_fit-set_tearing}
+use Rattle.registers.proofs.TableLaws.{length-set_reset}
+use Rattle.registers.proofs.TableLaws.{heads_of-set_reset, flags_fit-set_reset, length-set_reset_bit, heads_of-set_reset_bit}
+use Rattle.registers.proofs.TableLaws.{flags_fit-set_reset_bit}
 use Rattle.registers.proofs.TableLaws.{length-loaded, heads_of-loaded, flags_fit-loaded}
 use Rattle.registers.proofs.RegisterLaws.{tear_queue-lt}
 use Rattle.book.specs.HandOver.{taken_from}
@@ -44,7 +49,8 @@ use Rattle.guard.specs.declared.Answer.{Answer}
 use Rattle.guard.specs.declared.Tail.{Tail}
 use Rattle.guard.specs.declared.Tail.TheVariants.{Of, Nobody}
 use Rattle.guard.specs.Answers.{Outcome, refuse, world_at, Gives}
-use Rattle.guard.specs.Judges.{judge_chain, started, judge_head, judge_register, is_last, tail_in, judge_append, at_tail, judge_last, judge_word}
+use Rattle.guard.specs.Judges.{judge_chain, started, judge_head, judge_register, is_last, tail_in, judge_append, at_tail, judge_last}
+use Rattle.guard.specs.Judges.{judge_word}
 use Rattle.guard.specs.Judges.{judge_class, judge}
 use Rattle.guard.specs.Guard.{admitted, guest_write}
 use Rattle.kinds.specs.Kinds.{kind_number, judge_kind, kind_change}

@@ -88,7 +88,8 @@ found : (n : ℕ) (kinds : List ℕ) (w : ℕ → ℕ) (pl : Place) (met : List 
 unfolding judge_step
 found zero kinds w pl met p at out l e = absurd (omega arith)
 found (suc n) kinds w pl met p at out l e =
-    by (good_ptr p) (free_at met d) (eqb (desc_fault kinds w pl d) 0) (eqb (w d) 0) refl refl refl refl (sym (chain-eq kinds w pl met p) ∙ e)
+    by (good_ptr p) (free_at met d) (eqb (desc_fault kinds w pl d) 0) (eqb (w d) 0) refl refl refl refl
+    (sym (chain-eq kinds w pl met p) ∙ e)
     (λ q x r. found n kinds w q x r at out)
   where
     d : ℕ

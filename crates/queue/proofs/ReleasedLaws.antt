@@ -39,7 +39,8 @@ released-list w n (d ∷ ds) rs u l s =
     ∙ simp (good_ptr-addr d l.0, word_of-addr d, sole-has d (ds ++ rs) d s (omega arith) (omega arith), l.1)
     (at (plan n (w (d + 3))) (λ k. released-list w k ds rs (drop_one u d) l.2 (sole-drop-all u (d ∷ []) (ds ++ rs) s)))
   where
-    at : (q : Plan) → ((k : Mode) → released_from w (drop_one u d) (start ds) k ≡ (start (kept w k ds), drop_all (drop_one u d) (gone w k ds)))
+    at : (q : Plan)
+        → ((k : Mode) → released_from w (drop_one u d) (start ds) k ≡ (start (kept w k ds), drop_all (drop_one u d) (gone w k ds)))
         → after (planned q u (addr d) (start ds)) (λ t. released_from w t.0 t.1 t.2)
         ≡ (start (carry q (d ∷ ds) (λ k. kept w k ds)), drop_all u (carry q [] (λ k. d ∷ gone w k ds)))
     at Keep f = refl
@@ -88,7 +89,8 @@ released-sole w n qs u s = sole-drop-all u (gone_all w n qs) (flat (kept_all w n
 
 -- released once, a second release changes nothing
 pub released-again : (w : ℕ → ℕ) (n : Mode) (qs : List (List ℕ)) (u : Uses) → LinkedAll w qs → Sole u.0 (flat qs)
-    → released_all w Head (starts (kept_all w n qs)) (drop_all u (gone_all w n qs)) ≡ (starts (kept_all w n qs), drop_all u (gone_all w n qs))
+    → released_all w Head (starts (kept_all w n qs)) (drop_all u (gone_all w n qs))
+    ≡ (starts (kept_all w n qs), drop_all u (gone_all w n qs))
 released-again w n qs u l s =
     released-queues w Head (kept_all w n qs) [] (drop_all u (gone_all w n qs)) (kept-linked-all w n qs l)
     (rw (append-nil (flat (kept_all w n qs))) (released-sole w n qs u s))
@@ -106,7 +108,8 @@ receiving-kept P w n (t ∷ r ∷ qs) a =
     (receiving-kept P w n qs (all_right P r (receiving qs) a))
 
 -- and what is not gone and not kept is not of them
-receiving-none : (P : ℕ → Type 0) (w : ℕ → ℕ) (n : Mode) (qs : List (List ℕ)) → All P (gone_all w n qs) → All P (receiving (kept_all w n qs))
+receiving-none : (P : ℕ → Type 0) (w : ℕ → ℕ) (n : Mode) (qs : List (List ℕ)) → All P (gone_all w n qs)
+    → All P (receiving (kept_all w n qs))
     → All P (receiving qs)
 receiving-none P w n [] a b = tt
 receiving-none P w n (t ∷ []) a b = tt

@@ -86,7 +86,8 @@ module _ (qs : List (List ℕ)) (q : ℕ) (es : List ℕ) (there : q < length qs
   sole-set {u} s =
       rw longer (sole-grow (take q qs) (queue_at qs q) es (drop (suc q) qs) (subst (λ (l : List (List ℕ)). Sole u (es ++ flat l)) parts s))
 
-  pub recorded-set : {l : List ℕ} → Recorded l (gain (side_of q) es (receiving qs)) → Recorded l (receiving (set qs q (queue_at qs q ++ es)))
+  pub recorded-set : {l : List ℕ} → Recorded l (gain (side_of q) es (receiving qs))
+      → Recorded l (receiving (set qs q (queue_at qs q ++ es)))
   recorded-set {l} r =
       let b : Recorded l (gain (side_of (length (take q qs))) es (receiving qs)) = rw before r in
       rw longer

@@ -23,7 +23,8 @@ use Rattle.layout.proofs.PointerLaws.{good_ptr-is, good_ptr-addr, word_of-addr, 
 use Rattle.words.specs.WordSet.{empty_set, free_at, add_four, free_count}
 use Rattle.words.proofs.SetLaws.{free_count-falls, get_or-in, length-empty_set, get_or-empty_set}
 use Rattle.book.proofs.SoundLaws.{walk-eq, firsts-eq}
-use Rattle.book.specs.Sound.{WSt, WOut, walk_step, walk_from, walk_all, same_list, first_step, firsts_from, firsts_all, length_fits, lengths_fit}
+use Rattle.book.specs.Sound.{WSt, WOut, walk_step, walk_from, walk_all, same_list, first_step, firsts_from, firsts_all, length_fits}
+use Rattle.book.specs.Sound.{lengths_fit}
 use Rattle.book.specs.Sound.{sound}
 use Rattle.queue.proofs.Queue.{start, All, Linked, LinkedAll, Off, Apart, count, Sole, Recorded, flat, starts, receiving, Unmet}
 use Rattle.queue.proofs.Queue.{add_all}
@@ -48,7 +49,8 @@ pub record Walked (w : ℕ → ℕ) (met : List ℕ) (p : ℕ) (out : List ℕ) 
   pub unmet : Unmet met ds
   pub words : out ≡ add_all met ds
 
-found : (n : ℕ) (w : ℕ → ℕ) (met : List ℕ) (p : ℕ) (out : List ℕ) → free_count met < n → walk_from w met p ≡ (true, out) → Walked w met p out
+found : (n : ℕ) (w : ℕ → ℕ) (met : List ℕ) (p : ℕ) (out : List ℕ) → free_count met < n → walk_from w met p ≡ (true, out)
+    → Walked w met p out
 unfolding walk_step
 found zero w met p out l e = absurd (omega arith)
 found (suc n) w met p out l e =
@@ -85,7 +87,8 @@ unfolding walk_all
 all_nil w met = refl
 
 all_cons : (w : ℕ → ℕ) (h : ℕ) (hs met : List ℕ)
-    → walk_all w (h ∷ hs) met ≡ (both (walk_from w met h).0 (walk_all w hs (walk_from w met h).1).0, (walk_all w hs (walk_from w met h).1).1)
+    → walk_all w (h ∷ hs) met
+    ≡ (both (walk_from w met h).0 (walk_all w hs (walk_from w met h).1).0, (walk_all w hs (walk_from w met h).1).1)
 unfolding walk_all
 all_cons w h hs met = refl
 
@@ -230,7 +233,8 @@ lengths-each (f ∷ fs) (l ∷ ls) e =
     let r = lengths-each fs ls (both_right (length_fits f l) _ e) in
     (ap suc r.0, at r.1)
   where
-    at : ((k : ℕ) → length_fits (get_or fs k 0) (get_or ls k 0) ≡ true) → (k : ℕ) → length_fits (get_or (f ∷ fs) k 0) (get_or (l ∷ ls) k 0) ≡ true
+    at : ((k : ℕ) → length_fits (get_or fs k 0) (get_or ls k 0) ≡ true) → (k : ℕ)
+        → length_fits (get_or (f ∷ fs) k 0) (get_or (l ∷ ls) k 0) ≡ true
     at h zero = both_left (length_fits f l) _ e
     at h (suc k) = h k
 
@@ -328,7 +332,8 @@ sound-queues w hs used lens e =
     let f : lengths_fit (firsts_all w hs empty_set) lens ≡ true = both_right (same_list (walk_all w hs empty_set).1 used) _ c in
     made (walk-heads w hs empty_set [] sole-empty (both_left (walk_all w hs empty_set).0 _ e)) u f
   where
-    made : Heads w hs [] (walk_all w hs empty_set).1 → (walk_all w hs empty_set).1 ≡ used → lengths_fit (firsts_all w hs empty_set) lens ≡ true
+    made : Heads w hs [] (walk_all w hs empty_set).1 → (walk_all w hs empty_set).1 ≡ used
+        → lengths_fit (firsts_all w hs empty_set) lens ≡ true
         → Queues w hs used lens
     made h u f =
         let s : Sole used (flat h.qs) = rw (append-nil (flat h.qs)) at (rw u at h.sole) in

@@ -23,11 +23,13 @@ use Rattle.layout.specs.Layout.{queues}
 use Rattle.layout.proofs.ChoiceLaws.{clash}
 use Rattle.layout.proofs.BitLaws.{bit-clear_bit-same, bit-clear_bit-other, clear_bit-lt, bits-same}
 use Rattle.words.specs.Word.{word}
-use Rattle.registers.specs.Table.{state_words, cp_at, marks_at, tearing_at, reset_at, bit_at, head_of, cp_of, marks_of, tearings_of, tearing_of}
+use Rattle.registers.specs.Table.{state_words, cp_at, marks_at, tearing_at, reset_at, bit_at, head_of, cp_of, marks_of, tearings_of}
+use Rattle.registers.specs.Table.{tearing_of}
 use Rattle.registers.specs.Table.{reset_of, bit_of, heads_of, cps_of, set_marks, set_tearings, set_reset, unmarked, flags_fit, is_device}
 use Rattle.registers.specs.Rules.{teardown_done}
 use Rattle.registers.proofs.TableLaws.{get_or-heads_of, get_or-cps_of, length-set_tearings, tearings_of-set_tearings, marks_of-set_tearings}
-use Rattle.registers.proofs.TableLaws.{reset_of-set_tearings, bit_of-set_tearings, heads_of-set_tearings, cps_of-set_tearings, length-unmarked}
+use Rattle.registers.proofs.TableLaws.{reset_of-set_tearings, bit_of-set_tearings, heads_of-set_tearings, cps_of-set_tearings}
+use Rattle.registers.proofs.TableLaws.{length-unmarked}
 use Rattle.registers.proofs.TableLaws.{marks_of-unmarked, reset_of-unmarked, tearings_of-unmarked, heads_of-unmarked, cps_of-unmarked}
 use Rattle.registers.proofs.TableLaws.{flags_fit-bounds, flags_fit-set_tearings, flags_fit-unmarked}
 use Rattle.book.specs.HandOver.{Uses}
@@ -47,7 +49,8 @@ one-settled mask q c j n = at (eqb c teardown_done)
 settled-below : (mask q : ℕ) (cs : List ℕ) (j : ℕ) → j < q → bit j (settled mask q cs) ≡ bit j mask
 settled-below mask q [] j h = refl
 settled-below mask q (c ∷ cs) j h =
-    settled-below (pick (eqb c teardown_done) (clear_bit q mask) mask) (q + 1) cs j (omega arith) ∙ one-settled mask q c j (λ e. omega arith)
+    settled-below (pick (eqb c teardown_done) (clear_bit q mask) mask) (q + 1) cs j (omega arith)
+    ∙ one-settled mask q c j (λ e. omega arith)
 
 settled-from : (mask q : ℕ) (cs : List ℕ) (i : ℕ)
     → bit (q + i) (settled mask q cs) ≡ pick (eqb (get_or cs i 0) teardown_done) false (bit (q + i) mask)
@@ -159,7 +162,8 @@ module _ (t : List ℕ) where
 
   pub flags-fit : flags_fit t ≡ true → flags_fit (released_flags t) ≡ true
   flags-fit h =
-      let m : flags_fit ended ≡ true = flags_fit-set_tearings t h _ (settled-lt queues (tearings_of t) 0 (cps_of t) (flags_fit-bounds t h).1) in
+      let m : flags_fit ended ≡ true = flags_fit-set_tearings t h _
+      (settled-lt queues (tearings_of t) 0 (cps_of t) (flags_fit-bounds t h).1) in
       flags-case (λ r. flags_fit r ≡ true) (λ e. flags_fit-unmarked ended m) (λ e. m)
 
   module _ (l : length t ≡ state_words) where
@@ -211,17 +215,23 @@ settled-none cs = let h : settled 0 0 cs < 2 ^ 0 = settled-lt 0 0 0 cs (omega ar
 pub over-flags : (t : List ℕ) → reset_over (released_flags t) ≡ false
 over-flags t =
     flags-case t (λ r. reset_over r ≡ false) (λ e. rw (gone (set_marks 0 (ended t))) refl)
-    (λ e. rw (reset_of-set_tearings t (settled (tearings_of t) 0 (cps_of t)), bit_of-set_tearings t (settled (tearings_of t) 0 (cps_of t))) e)
+    (λ e. rw (
+      reset_of-set_tearings t (settled (tearings_of t) 0 (cps_of t)),
+      bit_of-set_tearings t
+          (settled (tearings_of t) 0 (cps_of t)),
+    ) e)
   where
     gone : (x : List ℕ) → reset_of (set_reset 0 x) ≡ false
     gone x = reset-zero (set_reset 0 x) (set-either (λ n. n ≡ 0) x reset_at 0 refl refl)
 
 pub heads-flags : (t : List ℕ) → heads_of (released_flags t) ≡ heads_of t
 heads-flags t =
-    flags-case t (λ r. heads_of r ≡ heads_of t) (λ e. heads_of-unmarked (ended t) ∙ heads_of-set_tearings t _) (λ e. heads_of-set_tearings t _)
+    flags-case t (λ r. heads_of r ≡ heads_of t) (λ e. heads_of-unmarked (ended t) ∙ heads_of-set_tearings t _)
+    (λ e. heads_of-set_tearings t _)
 
 pub cps-flags : (t : List ℕ) → cps_of (released_flags t) ≡ cps_of t
-cps-flags t = flags-case t (λ r. cps_of r ≡ cps_of t) (λ e. cps_of-unmarked (ended t) ∙ cps_of-set_tearings t _) (λ e. cps_of-set_tearings t _)
+cps-flags t =
+    flags-case t (λ r. cps_of r ≡ cps_of t) (λ e. cps_of-unmarked (ended t) ∙ cps_of-set_tearings t _) (λ e. cps_of-set_tearings t _)
 
 -- the teardowns that are left are not over
 pub tearings-flags : (t : List ℕ) → tearings_of t < 2 ^ queues
@@ -230,7 +240,8 @@ tearings-flags t h =
     flags-case t (λ r. settled (tearings_of r) 0 (cps_of t) ≡ tearings_of r) (λ e. rw (tearings_of-unmarked (ended t)) left) (λ e. left)
   where
     left : settled (tearings_of (ended t)) 0 (cps_of t) ≡ tearings_of (ended t)
-    left = set-either (λ m. settled m 0 (cps_of t) ≡ m) t tearing_at _ (settled-twice (tearings_of t) (cps_of t) h) (settled-none (cps_of t))
+    left = set-either (λ m. settled m 0 (cps_of t) ≡ m) t tearing_at _ (settled-twice (tearings_of t) (cps_of t) h)
+        (settled-none (cps_of t))
 
 pub flags-twice : (t : List ℕ) → flags_fit t ≡ true → released_flags (released_flags t) ≡ released_flags t
 flags-twice t fit =

@@ -62,7 +62,8 @@ module _ (bs : List ℕ) where
       sized-pick (has_mark 71 87 bs) _ _ (sized-needs 10 _ (λ h. sized-good _ 10 (omega arith) h))
       (sized-pick (has_mark 75 67 bs) _ _ (sized-needs 5 _ (λ h. sized-good _ 5 (omega arith) h))
       (sized-pick (has_mark 70 82 bs) _ _ (sized-needs 4 _ (λ h. sized-good _ 4 (omega arith) h))
-      (sized-pick (has_mark 83 84 bs) _ _ (sized-needs 4 _ (λ h. sized-pick (both (leb (get_or bs 2 0) engine_max) (leb 1 (get_or bs 3 0))) _ _
+      (sized-pick (has_mark 83 84 bs) _ _
+      (sized-needs 4 _ (λ h. sized-pick (both (leb (get_or bs 2 0) engine_max) (leb 1 (get_or bs 3 0))) _ _
       (sized-good _ 4 (omega arith) h) sized-bad)) sized-bad)))
 
   pub decode-sized : (first : Bool) → Sized bs (decode first bs)
@@ -104,7 +105,8 @@ module _ (x d : List ℕ) (h : record_max ≤ length x) where
       let h3 : 3 < length x = omega arith in
       let n : u16_at (x ++ d) 2 ≡ u16_at x 2 = simp get_or-append in
       let f = enough 4 (omega arith) in
-      ap (λ (k : ℕ). ram_of (x ++ d) k) n ∙ simp (f.0, f.1) (ram-at (u16_at x 2) (both (leb 1 (u16_at x 2)) (leb (u16_at x 2) ram_max)) refl)
+      ap (λ (k : ℕ). ram_of (x ++ d) k) n ∙ simp (f.0, f.1)
+      (ram-at (u16_at x 2) (both (leb 1 (u16_at x 2)) (leb (u16_at x 2) ram_max)) refl)
 
   later-append : decode_later (x ++ d) ≡ decode_later x
   unfolding decode_later

@@ -27,11 +27,13 @@ use Rattle.layout.specs.Choice.{pick}
 use Rattle.layout.specs.Bits.{bit, clear_bit}
 use Rattle.layout.specs.Layout.{queues, marks}
 use Rattle.layout.proofs.ChoiceLaws.{both_left, both_right, clash}
-use Rattle.layout.proofs.BitLaws.{bit-zero, bit-suc, bit-set_bit-same, bit-set_bit-other, bit-clear_bit-same, bit-clear_bit-other, clear-case}
+use Rattle.layout.proofs.BitLaws.{bit-zero, bit-suc, bit-set_bit-same, bit-set_bit-other, bit-clear_bit-same, bit-clear_bit-other}
+use Rattle.layout.proofs.BitLaws.{clear-case}
 use Rattle.layout.proofs.BitLaws.{set_bit-lt, clear_bit-lt, bits-same}
 use Rattle.registers.specs.Table.{state_words, hdp_at, cp_at, marks_at, tearing_at, reset_at, bit_at, head_of, hdp_of, cp_of, marks_of}
 use Rattle.registers.specs.Table.{tearings_of, tearing_of, all_marks, awaiting, any_tearing, reset_of, bit_of, set_head, set_hdp, set_cp}
-use Rattle.registers.specs.Table.{set_marks, set_mark, set_tearings, set_tearing, clear_tearing, set_reset, set_reset_bit, unmarked, heads_of}
+use Rattle.registers.specs.Table.{set_marks, set_mark, set_tearings, set_tearing, clear_tearing, set_reset, set_reset_bit, unmarked}
+use Rattle.registers.specs.Table.{heads_of}
 use Rattle.registers.specs.Table.{cps_of, flags_fit, is_device, loaded_from, loaded}
 
 -- ---- a store
@@ -419,7 +421,8 @@ any_tearing-none t q e = ap (bit q) (any_tearing-zero t e) ∙ bit-none q
 
 -- ---- a table that holds flags
 
-pub flags_fit-bounds : (t : List ℕ) → flags_fit t ≡ true → (marks_of t < 2 ^ marks) × (tearings_of t < 2 ^ queues) × (get_or t reset_at 0 ≤ 1)
+pub flags_fit-bounds : (t : List ℕ) → flags_fit t ≡ true
+    → (marks_of t < 2 ^ marks) × (tearings_of t < 2 ^ queues) × (get_or t reset_at 0 ≤ 1)
 unfolding flags_fit
 flags_fit-bounds t e =
     let rest = both_right (ltb (marks_of t) (2 ^ marks)) _ e in (

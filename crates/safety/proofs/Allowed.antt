@@ -26,9 +26,11 @@ use Rattle.layout.proofs.ChoiceLaws.{pick-holds}
 use Rattle.words.specs.Word.{word, put}
 use Rattle.words.specs.WordSet.{has}
 use Rattle.words.proofs.WordLaws.{length-put, put-put-same}
-use Rattle.registers.specs.Table.{state_words, hdp_at, cp_at, marks_at, tearing_at, reset_at, bit_at, all_marks, head_of, hdp_of, cp_of, marks_of}
+use Rattle.registers.specs.Table.{state_words, hdp_at, cp_at, marks_at, tearing_at, reset_at, bit_at, all_marks, head_of, hdp_of, cp_of}
+use Rattle.registers.specs.Table.{marks_of}
 use Rattle.registers.specs.Table.{tearings_of, awaiting, any_tearing, reset_of, heads_of, set_head, set_mark, set_tearing}
-use Rattle.registers.specs.Rules.{tear_queue, head_number, teardown_number, reset_number, register_fault, head_written, ack_written, written}
+use Rattle.registers.specs.Rules.{tear_queue, head_number, teardown_number, reset_number, register_fault, head_written, ack_written}
+use Rattle.registers.specs.Rules.{written}
 use Rattle.registers.proofs.RegisterLaws.{by_class-head, tear_queue-lt, head_written-set}
 use Rattle.book.specs.World.{World, set_state}
 use Rattle.queue.proofs.NumberLaws.{each}
@@ -260,7 +262,8 @@ class-ruled n v s = at (ltb n (hdp_class + queues)) refl
 
 -- an engine that begins changes no table
 begun-state : (n v : ℕ) (c : Controller) (m : List ℕ) → register_fault c.state n v ≡ 0
-    → ((register_write n v c m).number ≡ 0) × ((register_write n v c m).mem ≡ m) × ((register_write n v c m).ctl.state ≡ written c.state n v)
+    → ((register_write n v c m).number ≡ 0) × ((register_write n v c m).mem ≡ m)
+    × ((register_write n v c m).ctl.state ≡ written c.state n v)
 unfolding register_write
 begun-state n v c m z = rw z (refl, refl, refl)
 

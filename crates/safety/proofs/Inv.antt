@@ -43,7 +43,8 @@ use Rattle.blocks.specs.declared.Room.TheVariants.{Free}
 use Rattle.descriptor.specs.Fields.{eop, eoq, length_of}
 use Rattle.descriptor.specs.declared.Place.{Place}
 use Rattle.descriptor.specs.declared.Place.TheVariants.{Start, Middle, Buffer}
-use Rattle.registers.specs.Table.{state_words, reset_at, head_of, hdp_of, cp_of, marks_of, tearings_of, tearing_of, awaiting, reset_of, bit_of}
+use Rattle.registers.specs.Table.{state_words, reset_at, head_of, hdp_of, cp_of, marks_of, tearings_of, tearing_of, awaiting, reset_of}
+use Rattle.registers.specs.Table.{bit_of}
 use Rattle.registers.specs.Rules.{teardown_done}
 use Rattle.book.specs.declared.Mode.{Mode}
 use Rattle.book.specs.declared.Mode.TheVariants as Modes

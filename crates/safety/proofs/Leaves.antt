@@ -65,7 +65,8 @@ module _ (s : Machine) (i : Inv s) (q : ℕ) where
   abbrev L : List ℕ
   L = left_of s i.qs q
 
-  named : (p : ℕ) (cs : List ℕ) (d : ℕ) (rs : List ℕ) → L ≡ cs ++ d ∷ rs → p ≡ addr d → {m : List ℕ} → Only (word_of p) (words_of s) (word m)
+  named : (p : ℕ) (cs : List ℕ) (d : ℕ) (rs : List ℕ) → L ≡ cs ++ d ∷ rs → p ≡ addr d → {m : List ℕ}
+      → Only (word_of p) (words_of s) (word m)
       → Own s i q m
   named p cs d rs e a o = one cs (word_of p) rs (rw (pointer_word a) e) o
 

@@ -34,7 +34,8 @@ use Rattle.phases.specs.declared.Frame.{Frame}
 use Rattle.phases.specs.declared.Engine.{Engine}
 use Rattle.phases.specs.declared.Engine.TheVariants.{Reset, Transmit, Receive, TearTransmit, TearReceive}
 use Rattle.phases.specs.Quiet.{waits}
-use Rattle.controller.specs.Controller.{StepDone, idle_channel, rx_of, set_rx, unless_undefined, on_channel, step_of, held_back, Framed, frame_of}
+use Rattle.controller.specs.Controller.{StepDone, idle_channel, rx_of, set_rx, unless_undefined, on_channel, step_of, held_back, Framed}
+use Rattle.controller.specs.Controller.{frame_of}
 use Rattle.controller.specs.Controller.{fresh_controller}
 use Rattle.machine.specs.Machine.{Machine, Op, frame, step, apply, answer_of, with_ctl, apply_frame, apply_step, fresh_machine}
 use Rattle.safety.specs.Statement.{Safe}

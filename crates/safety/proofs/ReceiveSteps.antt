@@ -29,7 +29,8 @@ use Rattle.marks.specs.Marks.{last_mark, first_mark, marked, last_marked}
 use Rattle.descriptor.specs.declared.Place.TheVariants.{Buffer}
 use Rattle.descriptor.proofs.RuleLaws.{flags_fault-buffer, own_fault-parts}
 use Rattle.marks.proofs.MarkLaws.{word-last_marked-flags}
-use Rattle.marks.proofs.FlagLaws.{eop-last_mark, eoq-last_mark, owner-last_mark, td-last_mark, owner-first_mark, eop-first_mark, eoq-first_mark}
+use Rattle.marks.proofs.FlagLaws.{eop-last_mark, eoq-last_mark, owner-last_mark, td-last_mark, owner-first_mark, eop-first_mark}
+use Rattle.marks.proofs.FlagLaws.{eoq-first_mark}
 use Rattle.marks.proofs.FlagLaws.{td-first_mark, first_mark-lt}
 use Rattle.queue.proofs.Queue.{start, Linked}
 use Rattle.queue.proofs.LinkLaws.{all_right}
@@ -45,7 +46,8 @@ use Rattle.phases.specs.declared.Receiving.TheVariants.{Idle, Wait, Fetch, Movin
 use Rattle.phases.specs.declared.Took.{Took}
 use Rattle.phases.specs.declared.Takes.{Takes}
 use Rattle.phases.specs.declared.Takes.TheVariants.{Went}
-use Rattle.phases.specs.Receive.{to_phase, too_long, fetch, burst_size, advanced, store_burst, close, mark_last, mark_first, finish, take_step}
+use Rattle.phases.specs.Receive.{to_phase, too_long, fetch, burst_size, advanced, store_burst, close, mark_last, mark_first, finish}
+use Rattle.phases.specs.Receive.{take_step}
 use Rattle.controller.specs.Controller.{rx_of, take_moved, added, receive_step}
 use Rattle.machine.specs.Machine.{Machine}
 use Rattle.safety.proofs.Inv.{Fillable, Roomy, Spot, Latched, Latch, Through, RxInv, idle_rx, taking, Post, post_of, common_of}

@@ -26,7 +26,8 @@ use Rattle.words.specs.Word.{word}
 use Rattle.words.specs.WordSet.{has, free_at, free_count}
 use Rattle.blocks.specs.Room.{room_of, is_free}
 use Rattle.descriptor.specs.Fields.{sop, eop, owner, eoq, td, packet_length, length_of, first_byte}
-use Rattle.descriptor.specs.Rules.{side_at, offset_bad, flags_fault, end_flags_fault, length_fault, end_fault, sum_at, sum_fault, behind, ends_at}
+use Rattle.descriptor.specs.Rules.{side_at, offset_bad, flags_fault, end_flags_fault, length_fault, end_fault, sum_at, sum_fault, behind}
+use Rattle.descriptor.specs.Rules.{ends_at}
 use Rattle.descriptor.specs.Rules.{next_fault}
 use Rattle.descriptor.specs.declared.Place.{Place}
 use Rattle.descriptor.specs.declared.Place.TheVariants.{Start, Middle, Buffer}

@@ -24,19 +24,25 @@ use Rattle.layout.specs.Layout.{queues, marks}
 use Rattle.layout.specs.Class.{hdp_class}
 use Rattle.layout.proofs.ChoiceLaws.{clash, pick-holds}
 use Rattle.layout.proofs.BitLaws.{bit-set_bit-other}
-use Rattle.registers.specs.Table.{state_words, marks_at, reset_at, bit_at, head_of, hdp_of, cp_of, marks_of, tearings_of, tearing_of, awaiting}
+use Rattle.registers.specs.Table.{state_words, marks_at, reset_at, bit_at, head_of, hdp_of, cp_of, marks_of, tearings_of, tearing_of}
+use Rattle.registers.specs.Table.{awaiting}
 use Rattle.registers.specs.Table.{any_tearing, reset_of, bit_of, set_hdp, set_cp, set_marks, set_mark, set_tearings, set_tearing, set_reset}
 use Rattle.registers.specs.Table.{is_device, flags_fit}
 use Rattle.registers.specs.Rules.{teardown_done, tear_queue, head_number, register_fault, head_written, ack_written, reset_written, written}
 use Rattle.registers.proofs.TableLaws.{length-set_hdp, head_of-set_hdp, hdp_of-set_hdp-same, hdp_of-set_hdp-other, marks_of-set_hdp}
 use Rattle.registers.proofs.TableLaws.{tearings_of-set_hdp, reset_of-set_hdp, bit_of-set_hdp, length-set_cp, head_of-set_cp, hdp_of-set_cp}
-use Rattle.registers.proofs.TableLaws.{cp_of-set_cp-same, cp_of-set_cp-other, marks_of-set_cp, awaiting-set_cp, tearings_of-set_cp, tearing_of-set_cp}
-use Rattle.registers.proofs.TableLaws.{reset_of-set_cp, bit_of-set_cp, length-set_marks, head_of-set_marks, hdp_of-set_marks, marks_of-set_marks}
-use Rattle.registers.proofs.TableLaws.{tearings_of-set_marks, reset_of-set_marks, bit_of-set_marks, length-set_tearings, head_of-set_tearings}
-use Rattle.registers.proofs.TableLaws.{hdp_of-set_tearings, cp_of-set_tearings, marks_of-set_tearings, awaiting-set_tearings, reset_of-set_tearings}
+use Rattle.registers.proofs.TableLaws.{cp_of-set_cp-same, cp_of-set_cp-other, marks_of-set_cp, awaiting-set_cp, tearings_of-set_cp}
+use Rattle.registers.proofs.TableLaws.{tearing_of-set_cp}
+use Rattle.registers.proofs.TableLaws.{reset_of-set_cp, bit_of-set_cp, length-set_marks, head_of-set_marks, hdp_of-set_marks}
+use Rattle.registers.proofs.TableLaws.{marks_of-set_marks}
+use Rattle.registers.proofs.TableLaws.{tearings_of-set_marks, reset_of-set_marks, bit_of-set_marks, length-set_tearings}
+use Rattle.registers.proofs.TableLaws.{head_of-set_tearings}
+use Rattle.registers.proofs.TableLaws.{hdp_of-set_tearings, cp_of-set_tearings, marks_of-set_tearings, awaiting-set_tearings}
+use Rattle.registers.proofs.TableLaws.{reset_of-set_tearings}
 use Rattle.registers.proofs.TableLaws.{bit_of-set_tearings, tearing_of-set_tearing-same, tearing_of-set_tearing-other, length-set_reset}
 use Rattle.registers.proofs.TableLaws.{head_of-set_reset, hdp_of-set_reset, marks_of-set_reset, awaiting-set_reset, reset_of-set_reset}
-use Rattle.registers.proofs.TableLaws.{tearing_of-set_reset, length-set_reset_bit, head_of-set_reset_bit, hdp_of-set_reset_bit, marks_of-set_reset_bit}
+use Rattle.registers.proofs.TableLaws.{tearing_of-set_reset, length-set_reset_bit, head_of-set_reset_bit, hdp_of-set_reset_bit}
+use Rattle.registers.proofs.TableLaws.{marks_of-set_reset_bit}
 use Rattle.registers.proofs.TableLaws.{awaiting-set_reset_bit, tearing_of-set_reset_bit, reset_of-set_reset_bit, bit_of-set_reset_bit}
 use Rattle.registers.proofs.TableLaws.{any_tearing-none, get_or-loaded, is_device-register, flags_fit-set_hdp, flags_fit-set_cp}
 use Rattle.registers.proofs.TableLaws.{flags_fit-set_reset_bit, flags_fit-set_reset, flags_fit-set_mark, flags_fit-set_tearing}
@@ -136,7 +142,8 @@ module _ (s : Machine) (c : Calm s) where
   head-goes q x h w z =
       let t = set_hdp q x u in
       let m = set_bit q (marks_of t) in
-      zero-goes w (set_marks m t) (tearings_of-set_marks t m ∙ tearings_of-set_hdp u q x h) (reset_of-set_marks t m ∙ reset_of-set_hdp u q x h)
+      zero-goes w (set_marks m t) (tearings_of-set_marks t m ∙ tearings_of-set_hdp u q x h)
+      (reset_of-set_marks t m ∙ reset_of-set_hdp u q x h)
       (bit_of-set_marks t m ∙ bit_of-set_hdp u q x h)
       (each (λ j. j < queues → bit j (marks_of (set_marks m t)) ≡ true → hdp_of (set_marks m t) j ≡ 0) q
       (λ k e. hdp_of-set_marks t m q k ∙ hdp_of-set_hdp-same u q x size k ∙ z)
@@ -149,7 +156,8 @@ module _ (s : Machine) (c : Calm s) where
   cp-goes q x h w =
       let t = set_cp q x u in
       let m = set_bit (queues + q) (marks_of t) in
-      zero-goes w (set_marks m t) (tearings_of-set_marks t m ∙ tearings_of-set_cp u q x h) (reset_of-set_marks t m ∙ reset_of-set_cp u q x h)
+      zero-goes w (set_marks m t) (tearings_of-set_marks t m ∙ tearings_of-set_cp u q x h)
+      (reset_of-set_marks t m ∙ reset_of-set_cp u q x h)
       (bit_of-set_marks t m ∙ bit_of-set_cp u q x h)
       (λ j k e. hdp_of-set_marks t m j k ∙ hdp_of-set_cp u q x j k
       ∙ marked-zero w j k (sym
@@ -215,7 +223,8 @@ module _ (s : Machine) (c : Calm s) where
       let waits = awaiting-set_reset_bit t 1 ∙ awaiting-set_reset u 1 in
       let none : (q : ℕ) → tearing_of (reset_written u) q ≡ false = λ q. tearing_of-set_reset_bit t 1 q ∙ tearing_of-set_reset u 1 q
       ∙ any_tearing-none u q n in
-      let hdps : (q : ℕ) → q < queues → hdp_of (reset_written u) q ≡ hdp_of u q = λ q h. hdp_of-set_reset_bit t 1 q h ∙ hdp_of-set_reset u 1 q h in
+      let hdps : (q : ℕ) → q < queues → hdp_of (reset_written u) q ≡ hdp_of u q =
+      λ q h. hdp_of-set_reset_bit t 1 q h ∙ hdp_of-set_reset u 1 q h in
       record {
         bits = bit_of-set_reset_bit t 1 (length-set_reset u 1 ∙ size) ∙ sym (reset_of-set_reset_bit t 1 ∙ reset_of-set_reset u 1 size);
         ready = λ e. waits ∙ w;
@@ -235,7 +244,8 @@ module _ (s : Machine) (c : Calm s) where
   unfolding register_fault written
   register-goes n x o =
       by_class-both (λ (k : ℕ) (v : List ℕ). k ≡ 0 → Goes s v) n _ _ _ _ _ _ _ _ _ _ _ _ _ _ _ _ head (λ q h z. ack-goes q x h)
-      (λ side h z. let f = teardown_fault-none (awaiting u) (reset_of u) (tearing_of u (tear_queue side x)) x (cp_of u (tear_queue side x)) z in
+      (λ side h z. let f = teardown_fault-none (awaiting u) (reset_of u) (tearing_of u (tear_queue side x)) x
+      (cp_of u (tear_queue side x)) z in
       tear-goes (tear_queue side x) f.0 f.1 f.4)
       (λ z. let f = reset_fault-none (awaiting u) (reset_of u) (any_tearing u) x z in reset-goes f.0 f.2)
       (λ z. still-goes) (λ z. still-goes) (λ z. still-goes) (λ z. still-goes)

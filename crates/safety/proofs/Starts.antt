@@ -22,9 +22,12 @@ use Rattle.layout.specs.declared.Side.TheVariants.{Transmit, Receive}
 use Rattle.layout.proofs.ChoiceLaws.{clash}
 use Rattle.registers.specs.Table.{head_of, hdp_of, tearing_of, awaiting, reset_of, set_head, set_hdp}
 use Rattle.registers.specs.Rules.{head_number, register_fault, written}
-use Rattle.registers.proofs.TableLaws.{length-set_head, head_of-set_head-same, head_of-set_head-other, marks_of-set_head, tearings_of-set_head}
-use Rattle.registers.proofs.TableLaws.{reset_of-set_head, flags_fit-set_head, length-set_hdp, head_of-set_hdp, hdp_of-set_hdp-same, marks_of-set_hdp}
-use Rattle.registers.proofs.TableLaws.{awaiting-set_hdp, tearings_of-set_hdp, tearing_of-set_hdp, reset_of-set_hdp, bit_of-set_hdp, flags_fit-set_hdp}
+use Rattle.registers.proofs.TableLaws.{length-set_head, head_of-set_head-same, head_of-set_head-other, marks_of-set_head}
+use Rattle.registers.proofs.TableLaws.{tearings_of-set_head}
+use Rattle.registers.proofs.TableLaws.{reset_of-set_head, flags_fit-set_head, length-set_hdp, head_of-set_hdp, hdp_of-set_hdp-same}
+use Rattle.registers.proofs.TableLaws.{marks_of-set_hdp}
+use Rattle.registers.proofs.TableLaws.{awaiting-set_hdp, tearings_of-set_hdp, tearing_of-set_hdp, reset_of-set_hdp, bit_of-set_hdp}
+use Rattle.registers.proofs.TableLaws.{flags_fit-set_hdp}
 use Rattle.registers.proofs.RegisterLaws.{by_class-head, head_written-set, head_fault-none}
 use Rattle.chain.specs.Chain.{place_of}
 use Rattle.guard.specs.Judges.{judge_chain, started}
@@ -161,7 +164,8 @@ module _ (s : Machine) (c : Calm s) (q : ℕ) (l : q < queues) (p : ℕ) (out : 
           recorded = taken-recorded s c q l p out j;
         };
         marks = marks_of-set_hdp (set_head q p t) q p l ∙ marks_of-set_head t q p l ∙ c.marks ∙ sym (marks_of-set_hdp u q p l);
-        tearings = tearings_of-set_hdp (set_head q p t) q p l ∙ tearings_of-set_head t q p l ∙ c.tearings ∙ sym (tearings_of-set_hdp u q p l);
+        tearings =
+            tearings_of-set_hdp (set_head q p t) q p l ∙ tearings_of-set_head t q p l ∙ c.tearings ∙ sym (tearings_of-set_hdp u q p l);
         resets = reset_of-set_hdp (set_head q p t) q p l ∙ reset_of-set_head t q p l ∙ c.resets ∙ sym (reset_of-set_hdp u q p l);
         bits = bit_of-set_hdp u q p l ∙ c.bits ∙ sym (reset_of-set_hdp u q p l);
         ready = λ e. waits-d ∙ over;

@@ -32,14 +32,17 @@ use Rattle.words.specs.Word.{word}
 use Rattle.descriptor.specs.Fields.{td}
 use Rattle.marks.specs.Marks.{td_mark, marked}
 use Rattle.marks.proofs.FlagLaws.{td-td_mark, td_mark-lt}
-use Rattle.registers.specs.Table.{marks_of, tearings_of, tearing_of, reset_of, bit_of, set_hdp, set_cp, clear_tearing, set_reset_bit, unmarked}
+use Rattle.registers.specs.Table.{marks_of, tearings_of, tearing_of, reset_of, bit_of, set_hdp, set_cp, clear_tearing, set_reset_bit}
+use Rattle.registers.specs.Table.{unmarked}
 use Rattle.registers.specs.Rules.{teardown_done}
 use Rattle.registers.proofs.TableLaws.{bit-none, awaiting-bit, hdp_of-set_hdp-same, cp_of-set_hdp, marks_of-set_hdp, tearing_of-set_hdp}
-use Rattle.registers.proofs.TableLaws.{length-set_cp, cp_of-set_cp-same, hdp_of-set_cp, marks_of-set_cp, hdp_of-set_tearings, cp_of-set_tearings}
+use Rattle.registers.proofs.TableLaws.{length-set_cp, cp_of-set_cp-same, hdp_of-set_cp, marks_of-set_cp, hdp_of-set_tearings}
+use Rattle.registers.proofs.TableLaws.{cp_of-set_tearings}
 use Rattle.registers.proofs.TableLaws.{marks_of-set_tearings, tearing_of-clear_tearing-same, length-set_reset_bit, bit_of-set_reset_bit}
 use Rattle.registers.proofs.TableLaws.{hdp_of-set_reset_bit, cp_of-set_reset_bit, marks_of-set_reset_bit, awaiting-set_reset_bit}
 use Rattle.registers.proofs.TableLaws.{tearing_of-set_reset_bit, reset_of-set_reset_bit, length-unmarked, hdp_of-unmarked, cp_of-unmarked}
-use Rattle.registers.proofs.TableLaws.{marks_of-unmarked, awaiting-unmarked, tearing_of-unmarked, reset_of-unmarked, flags_fit-set_reset_bit}
+use Rattle.registers.proofs.TableLaws.{marks_of-unmarked, awaiting-unmarked, tearing_of-unmarked, reset_of-unmarked}
+use Rattle.registers.proofs.TableLaws.{flags_fit-set_reset_bit}
 use Rattle.registers.proofs.TableLaws.{flags_fit-unmarked}
 use Rattle.book.specs.declared.Mode.TheVariants.{Head, All as Whole}
 use Rattle.queue.proofs.Queue.{start, Linked, kept}

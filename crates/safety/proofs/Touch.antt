@@ -33,13 +33,18 @@ use Rattle.layout.specs.declared.Side.{Side}
 use Rattle.layout.specs.declared.Side.TheVariants.{Transmit, Receive}
 use Rattle.words.specs.Word.{word}
 use Rattle.words.specs.WordSet.{has}
-use Rattle.registers.specs.Table.{state_words, hdp_of, cp_of, marks_of, tearing_of, awaiting, reset_of, bit_of, set_hdp, set_cp, clear_tearing}
+use Rattle.registers.specs.Table.{state_words, hdp_of, cp_of, marks_of, tearing_of, awaiting, reset_of, bit_of, set_hdp, set_cp}
+use Rattle.registers.specs.Table.{clear_tearing}
 use Rattle.registers.specs.Table.{flags_fit}
-use Rattle.registers.proofs.TableLaws.{length-set_hdp, hdp_of-set_hdp-same, hdp_of-set_hdp-other, cp_of-set_hdp, marks_of-set_hdp, tearing_of-set_hdp}
-use Rattle.registers.proofs.TableLaws.{reset_of-set_hdp, bit_of-set_hdp, length-set_cp, cp_of-set_cp-same, cp_of-set_cp-other, hdp_of-set_cp}
-use Rattle.registers.proofs.TableLaws.{marks_of-set_cp, tearing_of-set_cp, reset_of-set_cp, bit_of-set_cp, length-set_tearings, hdp_of-set_tearings}
+use Rattle.registers.proofs.TableLaws.{length-set_hdp, hdp_of-set_hdp-same, hdp_of-set_hdp-other, cp_of-set_hdp, marks_of-set_hdp}
+use Rattle.registers.proofs.TableLaws.{tearing_of-set_hdp}
+use Rattle.registers.proofs.TableLaws.{reset_of-set_hdp, bit_of-set_hdp, length-set_cp, cp_of-set_cp-same, cp_of-set_cp-other}
+use Rattle.registers.proofs.TableLaws.{hdp_of-set_cp}
+use Rattle.registers.proofs.TableLaws.{marks_of-set_cp, tearing_of-set_cp, reset_of-set_cp, bit_of-set_cp, length-set_tearings}
+use Rattle.registers.proofs.TableLaws.{hdp_of-set_tearings}
 use Rattle.registers.proofs.TableLaws.{cp_of-set_tearings, marks_of-set_tearings, reset_of-set_tearings, bit_of-set_tearings}
-use Rattle.registers.proofs.TableLaws.{tearing_of-clear_tearing-other, flags_fit-bounds, bounds-flags_fit, flags_fit-set_hdp, flags_fit-set_cp}
+use Rattle.registers.proofs.TableLaws.{tearing_of-clear_tearing-other, flags_fit-bounds, bounds-flags_fit, flags_fit-set_hdp}
+use Rattle.registers.proofs.TableLaws.{flags_fit-set_cp}
 use Rattle.registers.proofs.TableLaws.{flags_fit-clear_tearing}
 use Rattle.book.specs.declared.Mode.{Mode}
 use Rattle.book.specs.declared.Mode.TheVariants.{Head, All as Whole}
@@ -54,7 +59,8 @@ use Rattle.phases.specs.declared.Burst.{Burst}
 use Rattle.phases.specs.declared.Burst.TheVariants.{Quiet}
 use Rattle.controller.specs.declared.Channel.{Channel}
 use Rattle.controller.specs.declared.Controller.{Controller}
-use Rattle.controller.specs.Controller.{StepDone, answer, idle_channel, tx_of, rx_of, stage_of, set_tx, set_rx, set_stage, set_state, set_totals}
+use Rattle.controller.specs.Controller.{StepDone, answer, idle_channel, tx_of, rx_of, stage_of, set_tx, set_rx, set_stage, set_state}
+use Rattle.controller.specs.Controller.{set_totals}
 use Rattle.controller.specs.Controller.{set_regs}
 use Rattle.machine.specs.Machine.{Machine, with_ctl}
 use Rattle.safety.specs.Statement.{InPlace}

@@ -90,7 +90,8 @@ module _ (s : Machine) (i : Inv s) where
   refused-write-alone a x e =
       let m = guest-number a x s i in
       let d : number_of (guest_write a x (world_of s)).answer ≢ 0 = λ z. e (ap number_of (answer-is a x s i) ∙ z) in
-      refused-machine a x (guest_write a x (world_of s)) s d (refused-write a x (world_of s) d (number-not _ 1 m refl) (number-not _ 2 m refl))
+      refused-machine a x (guest_write a x (world_of s)) s d
+      (refused-write a x (world_of s) d (number-not _ 1 m refl) (number-not _ 2 m refl))
 
   refused-kind-alone : (b k : ℕ) → number_of (apply (kind b k) s).answer ≢ 0 → Alone s (apply (kind b k) s).machine
   unfolding apply_kind

@@ -217,6 +217,7 @@ module _ (rx lens : List ℕ) (b : All (λ d. d ≤ 2044) rx) (a : Apart rx) whe
   recorded-many r =
       let l : length (ones empty_set rx) ≡ length lens = ones-size empty_set rx ∙ length-empty_set ∙ sym r.size in
       let x = no_more (ones empty_set rx) lens l (firsts-none r.there) in
-      let y = no_more lens (ones empty_set rx) (sym l) (λ k z. member-case (λ d. get_or (ones empty_set rx) d 0 ≡ 1) (get_or lens k 0 ≡ 0) k rx
+      let y = no_more lens (ones empty_set rx) (sym l)
+      (λ k z. member-case (λ d. get_or (ones empty_set rx) d 0 ≡ 1) (get_or lens k 0 ≡ 0) k rx
       (ones_in empty_set rx length-empty_set b a) (r.elsewhere k) (λ o. absurd (omega (arith, z, o)))) in
       omega (arith, x, y, firsts-many)

@@ -184,7 +184,8 @@ counted-yes w qs used lens l s r =
     let a = words-asked used empty_set (ts ++ rs) (sole-met used (ts ++ rs) b v) (sole-used used (ts ++ rs) v) in
     let c = recorded-many (receiving qs) lens (receiving-all _ qs (linked-all-small w qs l)) (apart-receiving qs (sole-apart s)) r in
     let n : 4 * words_in_use lens ≡ 4 * length rs + 0 = omega (arith, c, ap length (odds-flat qs)) in
-    let m : words_in_use used ≡ 4 * length ts + 4 * words_in_use lens = omega (arith, n, sole-many used (ts ++ rs) b v, length-append ts rs) in
+    let m : words_in_use used ≡ 4 * length ts + 4 * words_in_use lens = omega
+    (arith, n, sole-many used (ts ++ rs) b v, length-append ts rs) in
     let x : transmit_left w (starts qs) used empty_set (words_in_use used) ≡ (4 * words_in_use lens, add_all empty_set ts) =
     rw (evens-starts qs, m)
     (queues-spent w (ask_words used) (evens qs) empty_set (4 * words_in_use lens) lt (asked-left (ask_words used) empty_set ts rs a)) in

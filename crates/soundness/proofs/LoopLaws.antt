@@ -54,7 +54,8 @@ counting-next {l} {k} {n} {m} h e c =
     let b = e.1 in
     record { small = omega arith; most = omega arith; sum = rw (add-one k, e.0, c.sum) (sym (count-suc l k)) }
 
-pub counting-last : {l : List ℕ} {k n : ℕ} → length l ≡ desc_words → desc_words ≤ k → Counting l k n → (n ≡ words_in_use l) × (n ≤ desc_words)
+pub counting-last : {l : List ℕ} {k n : ℕ} → length l ≡ desc_words → desc_words ≤ k → Counting l k n
+    → (n ≡ words_in_use l) × (n ≤ desc_words)
 counting-last {l} {k} {n} e h c =
     let a = c.most in
     let b = c.small in

@@ -23,7 +23,8 @@ use borrow.Author.Tests.{le-leb, lt-ltb, leb-true, leb-false, ltb-true, ltb-fals
 use Rattle.layout.specs.Choice.{pick}
 use Rattle.layout.proofs.ChoiceLaws.{clash, both_left, both_right}
 use Rattle.words.specs.WordSet.{empty_set, has, free_at, add_four, drop_four}
-use Rattle.words.proofs.SetLaws.{length-add_four, length-drop_four, length-empty_set, get_or-empty_set, get_or-add_four-in, get_or-add_four-out}
+use Rattle.words.proofs.SetLaws.{length-add_four, length-drop_four, length-empty_set, get_or-empty_set, get_or-add_four-in}
+use Rattle.words.proofs.SetLaws.{get_or-add_four-out}
 use Rattle.words.proofs.SetLaws.{get_or-drop_four-in, get_or-drop_four-out, has-false, has-yes, free_at-is, free_at-none, free_at-yes}
 use Rattle.soundness.proofs.Lists.{All, Off, Apart, Outside, within, count, Sole, flat}
 use Rattle.soundness.proofs.LinkLaws.{all_left, all_right, all_join, all-mid}

@@ -8,7 +8,8 @@ pub returns-then-a-ne0 : goal.returns-then-a-ne0
 returns-then-a-ne0 c = judge-3 _ _ _ _ _ _ _ c.if-a-ne0.true
 
 pub returns-then-not-is_descriptor : goal.returns-then-not-is_descriptor
-returns-then-not-is_descriptor c = address-class _ _ _ _ _ _ _ c.if-a-ne0.false c.is_descriptor.ensures (sym refl ∙ c.if-not-is_descriptor.true)
+returns-then-not-is_descriptor c =
+    address-class _ _ _ _ _ _ _ c.if-a-ne0.false c.is_descriptor.ensures (sym refl ∙ c.if-not-is_descriptor.true)
     c.class_at.ensures c.judge_class.ensures
 
 pub overflow_sub-a : goal.overflow_sub-a

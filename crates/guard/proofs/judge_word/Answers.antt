@@ -7,10 +7,12 @@ pub returns-then-not-is_used : goal.returns-then-not-is_used
 returns-then-not-is_used c = word-free _ _ _ _ _ _ _ (sym c.is_used.ensures ∙ c.if-not-is_used.true) c.put_at.ensures
 
 pub returns-then-word_of-ne0 : goal.returns-then-word_of-ne0
-returns-then-word_of-ne0 c = word-busy _ _ _ _ _ _ _ (sym c.is_used.ensures ∙ c.if-not-is_used.false) (λ z. c.if-word_of-ne0.true (c.word_of.ensures ∙ z))
+returns-then-word_of-ne0 c =
+    word-busy _ _ _ _ _ _ _ (sym c.is_used.ensures ∙ c.if-not-is_used.false) (λ z. c.if-word_of-ne0.true (c.word_of.ensures ∙ z))
 
 pub returns-then-v-eq0 : goal.returns-then-v-eq0
-returns-then-v-eq0 c = word-zero _ _ _ _ _ _ _ (sym c.is_used.ensures ∙ c.if-not-is_used.false) (sym c.word_of.ensures ∙ c.if-word_of-ne0.false)
+returns-then-v-eq0 c =
+    word-zero _ _ _ _ _ _ _ (sym c.is_used.ensures ∙ c.if-not-is_used.false) (sym c.word_of.ensures ∙ c.if-word_of-ne0.false)
     c.if-v-eq0.true
 
 pub returns : goal.returns

@@ -8,7 +8,8 @@ pub loop-n-init : goal.loop-n-init
 loop-n-init c = (c.requires.1, omega arith, last_of-is _ _)
 
 pub returns-then-next-gt-LAST_DESCRIPTOR : goal.returns-then-next-gt-LAST_DESCRIPTOR
-returns-then-next-gt-LAST_DESCRIPTOR c = sym (last-stop (word c.args.m.now) c.loop-n.n _ c.word_of.ensures c.descriptor_word-next.ensures c.loop-n-test.true
+returns-then-next-gt-LAST_DESCRIPTOR c =
+    sym (last-stop (word c.args.m.now) c.loop-n.n _ c.word_of.ensures c.descriptor_word-next.ensures c.loop-n-test.true
     c.if-next-gt-LAST_DESCRIPTOR.true) ∙ c.loop-n.invariant.2
 
 pub overflow_sub-n : goal.overflow_sub-n

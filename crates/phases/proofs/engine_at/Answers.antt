@@ -22,5 +22,5 @@ returns-in-3 c = simp c.in-3.is
 
 pub returns-in_default : goal.returns-in_default
 unfolding engine_at
-returns-in_default c =
-    simp (ne_eqb c.args.which 0 (omega arith), ne_eqb c.args.which 1 (omega arith), ne_eqb c.args.which 2 (omega arith), ne_eqb c.args.which 3 (omega arith))
+returns-in_default c = let w = c.args.which in
+    simp (ne_eqb w 0 (omega arith), ne_eqb w 1 (omega arith), ne_eqb w 2 (omega arith), ne_eqb w 3 (omega arith))
