@@ -103,7 +103,7 @@ def table():
     more, more_whole = read("more-edits")
     definitions, definitions_whole = read("definition-edits")
     top = FOLDER.parent.parent
-    names = [line.partition(":")[0].strip() for line in (top / "crates.txt").read_text(encoding="utf-8").splitlines() if line.partition("#")[0].strip()]
+    names = [line.partition(":")[0].split()[0] for line in (top / "crates.txt").read_text(encoding="utf-8").splitlines() if line.partition("#")[0].strip()]
     names += sorted((set(ci) | set(more)) - set(names))
     form = "%-14s %14s %14s %6s %16s %8s"
     print(form % ("crate", "CPU s (proof)", "CPU s (edits)", "edits", "CPU s (further)", "further"))

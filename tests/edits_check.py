@@ -21,7 +21,7 @@ def report(count, name, wrong):
 
 
 def texts(count):
-    listed = {line.partition(":")[0].strip() for line in (TOP / "crates.txt").read_text(encoding="utf-8").splitlines() if line.partition("#")[0].strip()}
+    listed = {line.partition(":")[0].split()[0] for line in (TOP / "crates.txt").read_text(encoding="utf-8").splitlines() if line.partition("#")[0].strip()}
     fail = sorted(TOP.glob("crates/*/must-fail/*.edit"))
     more = sorted(TOP.glob("tests/more-edits/*/*.edit"))
     definitions = sorted(TOP.glob("tests/definition-edits/*.edit"))

@@ -8,7 +8,8 @@ pub returns-in_err-got-clause-failed : goal.returns-in_err-got-clause-failed
 returns-in_err-got-clause-failed g c =
     let a = c.args in
     let p = err_from_is_err_and c.from_residual.result c.from_residual.ensures.1 in
-    rw p.1 (kept-read a.wanted a.w a.buf.now c.shift.new.buf c.read_full.new.buf 0 c.requires.1 c.requires.0 c.shift.ensures (omega arith) c.read_full.auto.buf c.if-wanted-left.false c.if-w.false)
+    rw p.1 (kept-read a.wanted a.w a.buf.now c.shift.new.buf c.read_full.new.buf 0 c.requires.1 c.requires.0 c.shift.ensures (omega arith)
+    c.read_full.auto.buf c.if-wanted-left.false c.if-w.false)
 
 pub returns-clause-filled : goal.returns-clause-filled
 returns-clause-filled g c =
