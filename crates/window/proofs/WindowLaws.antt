@@ -5,6 +5,8 @@
 --     shift-more           one byte more moved to the front
 --     refilled-enough, refilled-ended   a window that stays as it is
 --     refilled-read        one that was moved to the front and read into
+--     taken-more           the bytes in front of a buffer, with those that were read behind them
+--     read-is, got-is      what was read, as the part of the window that is new
 --     kept-read            one that was moved to the front, where the read failed
 use Prim.Native.Nat.{ℕ, zero, suc, ◌+◌, ◌-◌, ◌≤◌, ◌<◌}
 use mathlib.Core.Path.{◌≡◌, refl, ap, ◌∙◌, sym}
@@ -20,7 +22,7 @@ use lib.Seq.{length-slice, drop-drop, get_or-drop, take-append-add, take-append-
 use lib.Dec.{ltb}
 use borrow.Author.Tests.{ltb-true, ltb-false, lt-ltb, le-ltb}
 use Rattle.layout.specs.Choice.{pick, both}
-use Rattle.std.proofs.Common.{le_refl}
+use Rattle.std.proofs.Common.{le_refl, drop_at}
 use Rattle.std.proofs.lemmas.Slice.{take-put_mid_below}
 use borrow.Rule.Slice.PartMut.{mid_of, post_of, put_mid, same_len_mid, mid_len}
 use Rattle.window.specs.declared.Window.{Window}
@@ -92,6 +94,19 @@ shift-more x b f i h e =
 
 -- ---- filled
 
+pub taken-more : (x ys : List ℕ) (a k n : ℕ) → a ≤ length x → n ≤ length ys → take (a + n) (put_mid a k x ys) ≡ take a x ++ take n ys
+taken-more x ys a k n h g =
+    let p = take a x in
+    let q = ys ++ post_of a k x in
+    ap (λ (i : ℕ). take (i + n) (p ++ q)) (sym (length-take-le a x h))
+    ∙ take-append-add p q n
+    ∙ ap (λ (l : List ℕ). p ++ l) (take-append-le n ys (post_of a k x) g)
+
+pub got-is : {wanted : ℕ} {w : Window} {x : List ℕ} {r : Window} {y : List ℕ} (g : Refilled wanted w x r y) → Inside w x
+    → drop (w.len - w.from) (window_of r y) ≡ g.got
+got-is {wanted} {w} {x} g h =
+    ap (λ (l : List ℕ). drop (w.len - w.from) l) g.bytes ∙ drop_at (window_of w x) g.got (w.len - w.from) (length-window w x h)
+
 module _ (wanted : ℕ) (w : Window) (x : List ℕ) (h : Inside w x) where
   refilled-stay : (wanted ≤ length (window_of w x)) ⊎ (w.ended ≡ true) → lacks wanted w ≡ false → Refilled wanted w x w x
   refilled-stay e f = record {
@@ -140,17 +155,14 @@ module _ (wanted : ℕ) (w : Window) (x x1 ys : List ℕ) (got : ℕ) (h : Insid
       ∙ take-paste x 0 (drop w.from x) left_over (omega arith) b
       ∙ window-part w x
 
-  length_front : length (take left_over x1) ≡ left_over
-  length_front = length-take-le left_over x1 (omega (arith, length_moved, h.within))
-
   read-bytes : take (left_over + got) read_into ≡ window_of w x ++ take got ys
   read-bytes =
-      let p = take left_over x1 in
-      let q = ys ++ post_of left_over (length x1 - left_over) x1 in
-      ap (λ (n : ℕ). take (n + got) (p ++ q)) (sym length_front)
-      ∙ take-append-add p q got
-      ∙ ap (λ (l : List ℕ). p ++ l) (take-append-le got ys (post_of left_over (length x1 - left_over) x1) k)
+      taken-more x1 ys left_over (length x1 - left_over) got (omega (arith, length_moved, h.within)) k
       ∙ ap (λ (l : List ℕ). l ++ take got ys) front-is
+
+  pub read-is : (t : Bool) → drop left_over (window_of (filled t) read_into) ≡ take got ys
+  read-is t =
+      ap (λ (l : List ℕ). drop left_over l) read-bytes ∙ drop_at (window_of w x) (take got ys) left_over (length-window w x h)
 
   length-read_into : length read_into ≡ length x
   length-read_into = same_len_mid left_over (length x1 - left_over) x1 ys s ∙ length_moved

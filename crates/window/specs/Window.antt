@@ -4,9 +4,11 @@
 --     lacks wanted w            the window is to be read into
 --     Refilled wanted w x r y   w of the buffer x became r of the buffer y: its bytes are kept, `got` stands behind them
 --     Kept wanted w x y         w of the buffer x was to be read into and the read failed: its bytes stand in front of the buffer y
+--     EndsRight ended left      where the input is said to have ended, the reader has no byte left, of those that it says that it has
 --     Passed w n r              r is w without its first n bytes
 -- Laws: proofs/WindowLaws.antt. Assumes nothing: these are definitions.
-use Rattle.std.specs.Prelude.{ℕ, ◌+◌, ◌-◌, ◌≤◌, ◌≡◌, Bool, true, not, ◌⊎◌, List, [], ◌++◌, length, take, drop, ltb}
+use Rattle.std.specs.Prelude.{ℕ, ◌+◌, ◌-◌, ◌≤◌, ◌≡◌, Bool, true, not, ◌⊎◌, List, [], ◌++◌, length, take, drop, ltb, Option}
+use Rattle.std.specs.Io.KnownBytes.{IsAtEnd}
 use Rattle.layout.specs.Choice.{pick, both}
 use Rattle.window.specs.declared.Window.{Window}
 
@@ -34,6 +36,9 @@ pub record Kept (wanted : ℕ) (w : Window) (x y : List ℕ) : Type 0 where
   pub lacking : lacks wanted w ≡ true
   pub bytes : take (w.len - w.from) y ≡ window_of w x
   pub size : length y ≡ length x
+
+abbrev pub EndsRight : Bool → Option (List ℕ) → Type 0
+EndsRight ended left = ended ≡ true → IsAtEnd left
 
 pub record Passed (w : Window) (n : ℕ) (r : Window) : Type 0 where
   pub from : r.from ≡ w.from + n

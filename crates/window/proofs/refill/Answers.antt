@@ -1,7 +1,8 @@
 -- `window::refill` meets its contract: kept as it is, or moved to the front and read into. Assumes nothing.
-use Rattle.std.proofs.Common.{refl, arith}
+use Rattle.std.proofs.Common.{true, refl, sym, subst, arith}
+use Rattle.std.specs.Io.KnownBytes.{Consumes}
 use Rattle.std.proofs.lemmas.Result.{err_from_is_err_and}
-use Rattle.window.proofs.WindowLaws.{refilled-read, kept-read}
+use Rattle.window.proofs.WindowLaws.{refilled-read, read-is, kept-read}
 use Rattle.window.proofs.refill.Goals as goal
 
 pub returns-in_err-got-clause-failed : goal.returns-in_err-got-clause-failed
@@ -15,4 +16,11 @@ pub returns-clause-filled : goal.returns-clause-filled
 returns-clause-filled g c =
     let a = c.args in
     refilled-read a.wanted a.w a.buf.now c.shift.new.buf c.read_full.new.buf c.in_ok-got.got c.requires.1 c.requires.0
-    c.shift.ensures c.in_ok-got.ensures c.read_full.auto.buf _ refl c.if-wanted-left.false c.if-w.false
+    c.shift.ensures c.in_ok-got.ensures.count c.read_full.auto.buf _ refl c.if-wanted-left.false c.if-w.false
+
+pub returns-clause-read : goal.returns-clause-read
+returns-clause-read g c =
+    let a = c.args in
+    let e = read-is a.wanted a.w a.buf.now c.shift.new.buf c.read_full.new.buf c.in_ok-got.got c.requires.1 c.requires.0
+    c.shift.ensures c.in_ok-got.ensures.count c.read_full.auto.buf true in
+    subst (Consumes _ _) (sym e) c.in_ok-got.ensures.bytes
