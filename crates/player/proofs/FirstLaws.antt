@@ -145,7 +145,7 @@ module _ (bs : List ℕ) (ended : Bool) (h : Enough bs ended) (more : List ℕ) 
       ∙ ap (λ (l : List ℕ). replay_for k (4 + n) (fresh_machine (take n (drop 4 bs))) l) (drop-append-le (4 + n) bs more g)
       ∙ fuel k (suc (length rest)) (4 + n) (fresh_machine (take n (drop 4 bs))) rest long (omega arith)
 
-pub printed-bad : (w : Window) (x y y' : List ℕ) (end n : ℕ) → Enough (window_of w x) w.ended → n ≡ kinds_in (decode true
+abbrev pub printed-bad : (w : Window) (x y y' : List ℕ) (end n : ℕ) → Enough (window_of w x) w.ended → n ≡ kinds_in (decode true
     (window_of w x)) → n ≡ 0
     → Ends y 0 (bad_line 0) y' end → Printed (window_of w x) (record { end = end; ended = w.ended }) y'
 printed-bad w x y y' end n h k e z =
@@ -191,7 +191,7 @@ fresh-is c m k t u l ks e f g = λ i. machine_at (e i) (g.mem i) (f i) (g.state 
 module _ (w : Window) (x : List ℕ) (h : Enough (window_of w x) w.ended) (n : ℕ)
     (d : decode true (window_of w x) ≡ Good (Ram n) (4 + n)) (g : 4 + n ≤ length (window_of w x)) (s : Run) (b : Begun w n s)
     (m k t u l y : List ℕ) (fresh : Fresh m t u l) (kinds : k ≡ take n (drop 4 (window_of w x))) where
-  begun-stands : Stands (window_of w x) [] s m k t u l x y
+  pub begun-stands : Stands (window_of w x) [] s m k t u l x y
   begun-stands =
       let bs = window_of w x in
       let rest = drop (4 + n) bs in
@@ -213,7 +213,7 @@ module _ (w : Window) (x : List ℕ) (h : Enough (window_of w x) w.ended) (n : �
             s.window.ended) (sym b.at) k6;
       }
 
-  pub printed-all : (r : Run) (m1 k1 t1 u1 l1 x1 y1 : List ℕ) → Holds r x1 y1 → Reached 0 s m k t u l x y r m1 k1 t1 u1 l1 x1 y1
+  abbrev pub printed-all : (r : Run) (m1 k1 t1 u1 l1 x1 y1 : List ℕ) → Holds r x1 y1 → Reached 0 s m k t u l x y r m1 k1 t1 u1 l1 x1 y1
       → Printed (window_of w x) (record { end = r.at; ended = r.window.ended }) y1
   printed-all r m1 k1 t1 u1 l1 x1 y1 hold a = record {
     got = a.got;

@@ -2,3 +2,4 @@ pub mod ReplayLaws
 pub mod StandLaws
 pub mod FirstLaws
 pub mod Settled
+pub mod StreamLaws

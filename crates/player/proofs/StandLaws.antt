@@ -3,7 +3,7 @@
 --     next_fits                what is decoded lies within the window
 --     acted-end, acted-bad, acted-good   what was decoded is played
 --     kept-few, turned         few lines are kept before a record; one turn whole
---     still, reached-none, reached-more, reached-all, reached-over   turns one after another, until the run is over
+--     still, reached-none, reached-more, reached-all, reached-going, reached-over   turns one after another, until the run is over
 use Prim.Native.Nat.{ℕ, ◌+◌, ◌-◌, ◌≤◌, ◌<◌}
 use mathlib.Core.Path.{◌≡◌, refl, ap, ◌∙◌, sym, subst}
 use mathlib.Core.Bool.{Bool, true, false}
@@ -164,7 +164,7 @@ kept-few a r e = subst (λ (z : ℕ). z ≤ gathered_max) (sym e) (kept-few-at (
 
 module _ (s : Run) (m k t u l x y : List ℕ) (w : Window) (x' : List ℕ) (g : Refilled record_max s.window x w x') (going : s.going
     ≡ true) where
-  turn-middle : (at : ℕ) → at ≡ kept_at s.at → (read wrote : List ℕ) → Stands read wrote s m k t u l x y
+  pub turn-middle : (at : ℕ) → at ≡ kept_at s.at → (read wrote : List ℕ) → Stands read wrote s m k t u l x y
       → Stands (read ++ g.got) (wrote ++ flushed s.at y) (run_at s.ctl at w s.offset true) m k t u l x' y
   turn-middle at e read wrote f =
       let o = s.offset in
@@ -186,7 +186,7 @@ module _ (s : Run) (m k t u l x y : List ℕ) (w : Window) (x' : List ℕ) (g : 
         lines = subst (λ (z : ℕ). Lines all (wrote ++ flushed s.at y) (take z y) true o b (window_of w x') w.ended) (sym e) k4;
       }
 
-  pub turned : (at : ℕ) (d : Decoded) (r : Run) (m' k' t' u' l' y' : List ℕ) → at ≡ kept_at s.at → d ≡ decode false (window_of w x')
+  abbrev pub turned : (at : ℕ) (d : Decoded) (r : Run) (m' k' t' u' l' y' : List ℕ) → at ≡ kept_at s.at → d ≡ decode false (window_of w x')
       → Acted d w s.ctl at s.offset m k t u l y r m' k' t' u' l' y' → Turned s m k t u l x y r m' k' t' u' l' x' y'
   turned at d r m' k' t' u' l' y' e q a = record {
     window = w;
@@ -208,7 +208,7 @@ pub le_of : {a b c : ℕ} → a ≤ b → c ≡ b → a ≤ c
 le_of h e = omega (arith, h, e)
 
 module _ (s : Run) (m k t u l x y : List ℕ) where
-  pub reached-none : (turns : ℕ) → offset_end ≤ turns + s.offset → Reached turns s m k t u l x y s m k t u l x y
+  abbrev pub reached-none : (turns : ℕ) → offset_end ≤ turns + s.offset → Reached turns s m k t u l x y s m k t u l x y
   reached-none turns h = record {
     got = [];
     put = [];
@@ -220,7 +220,7 @@ module _ (s : Run) (m k t u l x y : List ℕ) where
   }
 
   module _ (turns : ℕ) (r : Run) (m1 k1 t1 u1 l1 x1 y1 : List ℕ) (a : Reached turns s m k t u l x y r m1 k1 t1 u1 l1 x1 y1) where
-    pub reached-more : (left : ℕ) (q : Run) (m2 k2 t2 u2 l2 x2 y2 : List ℕ) → r.going ≡ true → 0 < turns → left ≡ pick q.going
+    abbrev pub reached-more : (left : ℕ) (q : Run) (m2 k2 t2 u2 l2 x2 y2 : List ℕ) → r.going ≡ true → 0 < turns → left ≡ pick q.going
         (turns - 1) 0
         → Turned r m1 k1 t1 u1 l1 x1 y1 q m2 k2 t2 u2 l2 x2 y2 → Reached left s m k t u l x y q m2 k2 t2 u2 l2 x2 y2
     reached-more left q m2 k2 t2 u2 l2 x2 y2 going some is b =
@@ -253,6 +253,13 @@ module _ (s : Run) (m k t u l x y : List ℕ) where
 not_going : (t : Bool) (o n : ℕ) → (t ≡ true → offset_end ≤ 0 + o) → o + n < offset_end → t ≡ false
 not_going true o n f h = absurd (omega (arith, f refl, h))
 not_going false o n f h = refl
+
+pub reached-going : (s : Run) (m k t u l x y : List ℕ) (r : Run) (m1 k1 t1 u1 l1 x1 y1 : List ℕ)
+    (a : Reached 0 s m k t u l x y r m1 k1 t1 u1 l1 x1 y1)
+    → (read wrote : List ℕ) → length (read ++ a.got) < offset_end → Stands read wrote s m k t u l x y → r.going ≡ false
+reached-going s m k t u l x y r m1 k1 t1 u1 l1 x1 y1 a read wrote n f =
+    let v = a.stands read wrote n f in
+    not_going r.going r.offset (length (window_of r.window x1)) v.1 (omega (arith, v.0.place, n))
 
 pub reached-over : (s : Run) (m k t u l x y : List ℕ) (r : Run) (m1 k1 t1 u1 l1 x1 y1 : List ℕ)
     (a : Reached 0 s m k t u l x y r m1 k1 t1 u1 l1 x1 y1)

@@ -1,2 +1,3 @@
 pub mod Stands
 pub mod Turns
+pub mod Streams

@@ -1,22 +1,26 @@
 // A bench file replayed from any reader to any writer: what is read is decoded and played record by record, and its lines are written.
 // Promises: over all bytes read so far, the bytes handed to the write and those gathered are what `replay` prints up to there; a fresh
 // machine with the first record's kinds stands at the beginning; the last line is `replay`'s.
-// What the reader and the writer do is not promised. Where one of them fails, its error is answered; no other error comes.
+// Where the reader says which bytes it has left and the writer which it holds, `replay` of those is what is added to these. What a file does
+// is not promised. Where the reader or the writer fails, its error is answered; no other error comes.
 // Document 01, "The bench".
 
 #![tactic(auto)]
 
-ghost use Rattle.std.specs.Prelude.{◌≡◌, true, false, List, ℕ, ◌+◌, ◌-◌, ◌*◌, ◌≤◌, ◌<◌, min, length, take, drop, replicate, IfOk, OnErr};
+ghost use Rattle.std.specs.Prelude.{◌≡◌, true, false, List, ℕ, ◌+◌, ◌-◌, ◌*◌, ◌≤◌, ◌<◌, min, length, take, drop, replicate, IfOk, OnOk, OnErr, IfSome};
 ghost use Rattle.std.proofs.Math.Seq.{paste};
+ghost use Rattle.std.specs.Io.KnownBytes.{Appends};
 ghost use Rattle.layout.specs.Layout.{desc_bytes, desc_words};
 ghost use Rattle.layout.specs.Choice.{pick};
 ghost use Rattle.registers.specs.Table.{state_words};
 ghost use Rattle.records.specs.Records.{ram_max, record_max, decode};
+ghost use Rattle.replay.specs.Replay.{replay};
 ghost use Rattle.records.specs.Lines.{line_max, sent_line, bad_line};
 ghost use Rattle.window.specs.Window.{window_of, Inside};
 ghost use Rattle.player.specs.Stands.{Enough, Stands, Holds, offset_end, run_at};
-ghost use Rattle.player.specs.Turns.{gathered_max, room_min, kept_at, size_of, kinds_of, kinds_in, Ends, Went, Begun, Fresh};
+ghost use Rattle.player.specs.Turns.{gathered_max, room_min, kept_at, flushed, size_of, kinds_of, kinds_in, Ends, Went, Begun, Fresh};
 ghost use Rattle.player.specs.Turns.{Acted, Turned, Reached, Printed, Replayed, Untouched, Broken};
+ghost use Rattle.player.specs.Streams.{shown, TurnedOn, ReachedOn, PrintedOn};
 
 use controller::Controller;
 use layout::{DESC_BYTES, DESC_WORDS, Lengths, Words};
@@ -84,6 +88,7 @@ fn no_lengths() -> Lengths
 // Writes the lines that end there.
 fn emit<W: Write>(to: &mut W, out: &[u8], end: usize) -> io::Result<()>
     requires { end ≤ length out.now }
+    ensures { OnOk result (Appends (W.contents to.old) (W.contents to.new) (take end out.now)) }
 {
     to.write_all(&out[0..end])
 }
@@ -92,6 +97,7 @@ fn emit<W: Write>(to: &mut W, out: &[u8], end: usize) -> io::Result<()>
 fn flush<W: Write>(to: &mut W, out: &[u8], at: usize) -> io::Result<usize>
     requires { at ≤ length out.now }
     ensures kept { IfOk result (λ n. n ≡ kept_at at) }
+    ensures wrote { OnOk result (Appends (W.contents to.old) (W.contents to.new) (flushed at out.now)) }
     ensures failed { OnErr result (gathered_max < at) }
 {
     if at <= GATHERED {
@@ -105,6 +111,7 @@ fn flush<W: Write>(to: &mut W, out: &[u8], at: usize) -> io::Result<usize>
 fn finish_sent<W: Write>(to: &mut W, out: &mut [u8], at: usize, c: Controller) -> io::Result<usize>
     requires { at + line_max ≤ length out.old }
     ensures ends { IfOk result (λ end. Ends out.old at (sent_line c.sent c.received) out.new end) }
+    ensures wrote { IfOk result (λ end. Appends (W.contents to.old) (W.contents to.new) (take end out.new)) }
     ensures failed { OnErr result ((end : ℕ) × Ends out.old at (sent_line c.sent c.received) out.new end) }
 {
     let end = put_totals(c, out, at);
@@ -115,6 +122,7 @@ fn finish_sent<W: Write>(to: &mut W, out: &mut [u8], at: usize, c: Controller) -
 fn finish_bad<W: Write>(to: &mut W, out: &mut [u8], at: usize, offset: u64) -> io::Result<usize>
     requires { at + line_max ≤ length out.old }
     ensures ends { IfOk result (λ end. Ends out.old at (bad_line offset) out.new end) }
+    ensures wrote { IfOk result (λ end. Appends (W.contents to.old) (W.contents to.new) (take end out.new)) }
     ensures failed { OnErr result ((end : ℕ) × Ends out.old at (bad_line offset) out.new end) }
 {
     let end = put_bad(out, at, offset);
@@ -191,6 +199,7 @@ fn act<W: Write>(
     ensures acted { IfOk result (λ r. Acted d w c at offset m.old kinds.old t.old used.old lens.old
         out.old r
         m.new kinds.new t.new used.new lens.new out.new) }
+    ensures wrote { IfOk result (λ r. Appends (W.contents to.old) (W.contents to.new) (shown r out.new)) }
     ensures failed { OnErr result ((size_of d ≡ 0) × Untouched m.old kinds.old t.old used.old lens.old
         m.new kinds.new t.new used.new lens.new) }
 {
@@ -228,6 +237,10 @@ fn take_turn<R: Read, W: Write>(
 ) -> io::Result<Run>
     requires { (record_max ≤ length input.old) × (room_min ≤ length out.old) × Holds s input.old out.old × (s.going ≡ true) }
     ensures turned { IfOk result (λ r. Turned s m.old kinds.old t.old used.old lens.old
+        input.old out.old r
+        m.new kinds.new t.new used.new lens.new input.new out.new) }
+    ensures on { IfOk result (λ r. TurnedOn (R.remaining source.old) (R.remaining source.new) (W.contents to.old) (W.contents to.new)
+        s m.old kinds.old t.old used.old lens.old
         input.old out.old r
         m.new kinds.new t.new used.new lens.new input.new out.new) }
     ensures failed { OnErr result (Untouched m.old kinds.old t.old used.old lens.old
@@ -268,6 +281,10 @@ fn replay_rest<R: Read, W: Write>(
         × (first.going ≡ true) × (0 < first.offset) }
     ensures holds { IfOk result (λ r. Holds r input.new out.new) }
     ensures reached { IfOk result (λ r. Reached 0 first m.old kinds.old t.old used.old lens.old
+        input.old out.old r
+        m.new kinds.new t.new used.new lens.new input.new out.new) }
+    ensures on { IfOk result (λ r. ReachedOn (R.remaining source.old) (R.remaining source.new) (W.contents to.old) (W.contents to.new)
+        0 first m.old kinds.old t.old used.old lens.old
         input.old out.old r
         m.new kinds.new t.new used.new lens.new input.new out.new) }
     ensures failed { OnErr result (Broken first m.old kinds.old t.old used.old lens.old
@@ -366,6 +383,8 @@ fn play_input<R: Read, W: Write>(
     requires { (record_max ≤ length input.old) × (room_min ≤ length out.old) × (length kinds.old ≡ ram_max)
         × Inside w input.old × Enough (window_of w input.old) w.ended × Fresh m.old t.old used.old lens.old }
     ensures printed { IfOk result (λ r. Printed (window_of w input.old) r out.new) }
+    ensures on { IfOk result (λ r. PrintedOn (R.remaining source.old) (R.remaining source.new) (W.contents to.old) (W.contents to.new)
+        w.ended (window_of w input.old) r out.new) }
     ensures failed { OnErr result ((length input.new ≡ length input.old) × (length out.new ≡ length out.old)) }
 {
     let n = count_kinds(input, w);
@@ -404,6 +423,8 @@ pub fn replay_file<R: Read, W: Write>(
 ) -> io::Result<Last>
     requires { (record_max ≤ length input.old) × (room_min ≤ length out.old) }
     ensures replayed { IfOk result (λ r. Replayed input.old r out.new) }
+    ensures written { OnOk result (IfSome (R.remaining source.old) (λ bs. length bs < offset_end
+        → Appends (W.contents to.old) (W.contents to.new) (replay bs))) }
     ensures failed { OnErr result ((length input.new ≡ length input.old) × (length out.new ≡ length out.old)) }
 {
     let mut m = descriptors();

@@ -1,13 +1,14 @@
 use Rattle.std.proofs.Common.{◌+◌, ◌-◌, ◌≤◌, refl, ◌∙◌, arith}
 use Rattle.player.specs.Stands.{offset_end}
-use Rattle.player.proofs.StandLaws.{still, reached-none, reached-more}
+use Rattle.player.proofs.StandLaws.{still}
+use Rattle.player.proofs.StreamLaws.{turns-on-none, turns-on-more, turns-on-all}
 use Rattle.player.proofs.replay_rest.Goals as goal
 
 pub loop-turns-init : goal.loop-turns-init
 loop-turns-init g c =
     let p = c.requires in
     let h : offset_end ≤ (offset_end - 1) + c.args.first.offset = omega (arith, p.4) in
-    ((refl, refl, refl, refl), (p.2, λ _. p.3, reached-none _ _ _ _ _ _ _ _ _ h))
+    ((refl, refl, refl, refl), (p.2, λ _. p.3, turns-on-none _ _ _ _ _ _ _ _ _ _ _ p.3 h))
 
 pub loop-turns-preserved : goal.loop-turns-preserved
 loop-turns-preserved g c =
@@ -20,6 +21,10 @@ loop-turns-preserved g c =
       (
         turn.holds,
         λ h. still c.in_ok-s.s.going _ _ left h,
-        reached-more _ _ _ _ _ _ _ _ _ _ _ _ _ _ _ _ _ inv.1.2 _ c.in_ok-s.s _ _ _ _ _ _ _ (inv.1.1 some) some left turn,
+        turns-on-more _ _ _ _ _ _ _ _ _ _ _ _ _ _ _ _ _ _ _ _ _ inv.1.2 _ _ _ c.in_ok-s.s _ _ _ _ _ _ _ (inv.1.1 some) some left
+            c.in_ok-s.ensures.on,
       ),
     )
+
+pub returns-clause-on : goal.returns-clause-on
+returns-clause-on g c = turns-on-all _ _ _ _ _ _ _ _ _ _ _ _ _ _ _ _ _ _ _ _ _ c.loop-turns.invariant.1.2 c.loop-turns-test.false
