@@ -1,13 +1,14 @@
 // A bench file replayed from any reader to any writer: what is read is decoded and played record by record, and its lines are written.
 // Promises: over all bytes read so far, the bytes handed to the write and those gathered are what `replay` prints up to there; a fresh
 // machine with the first record's kinds stands at the beginning; the last line is `replay`'s.
-// Where the reader says which bytes it has left and the writer which it holds, `replay` of those is what is added to these. What a file does
-// is not promised. Where the reader or the writer fails, its error is answered; no other error comes.
+// Where the reader says which bytes it has left and the writer which it holds, `replay` of those is what is added to these. What a
+// file does is not promised. Where the reader or the writer fails, its error is answered; no other error comes.
 // Document 01, "The bench".
 
 #![tactic(auto)]
 
-ghost use Rattle.std.specs.Prelude.{◌≡◌, true, false, List, ℕ, ◌+◌, ◌-◌, ◌*◌, ◌≤◌, ◌<◌, min, length, take, drop, replicate, IfOk, OnOk, OnErr, IfSome};
+ghost use Rattle.std.specs.Prelude.{◌≡◌, true, false, List, ℕ, ◌+◌, ◌-◌, ◌*◌, ◌≤◌, ◌<◌, min, length, take, drop, replicate};
+ghost use Rattle.std.specs.Prelude.{IfOk, OnOk, OnErr, IfSome};
 ghost use Rattle.std.proofs.Math.Seq.{paste};
 ghost use Rattle.std.specs.Io.KnownBytes.{Appends};
 ghost use Rattle.layout.specs.Layout.{desc_bytes, desc_words};
