@@ -4,14 +4,13 @@ import re
 import shutil
 import subprocess
 
-# where the prover or the front end refuses something, and what it says there
-PLACE = re.compile(r"^(?:rt: )?(?:note: )?(\S*):\d+:\d+: (error\b.*|it is not proved .*)", re.M)
-PART = re.compile(r"(?:crates/(\w+)/)?((?:specs|proofs|src)/.*)$")
+# where the prover or the front end refuses something, and what it says there; and the line that rt prints above all that it says of a crate
+PLACE = re.compile(r"^(?:note: )?(?:\./)?(\S*):\d+:\d+: (error\b.*|it is not proved .*)|^== (\w+)$", re.M)
 # what rt says of one edit that it tried: `rt: must-fail CRATE/NAME.edit: refused, as it must be: PLACE: REFUSAL`
 TRIED = re.compile(r"^rt: must-fail (\w+)/(\S+)\.edit: (.*)$", re.M)
 GOOD = "refused, as it must be"
 # what only waits for something else that was refused
-WAITS = re.compile(r"was not admitted|it calls `[^`]*`, which is not proved")
+WAITS = re.compile(r"was not admitted|declarations? that depends? on|it calls `[^`]*`, which is not proved")
 # the proof file no longer fits the code: an operation more or fewer, and no fact that fails
 SHAPE = re.compile(r"has no (?:field )?`|that can be named from here")
 # the edit is no program or no definition
@@ -82,12 +81,12 @@ def run(command, folder, env):
 
 def errors_of(log):
     """Each refusal of its own, first things first: (crate or '', file in the crate, what is said)."""
-    out = []
-    for place, what in PLACE.findall(log):
-        if WAITS.search(what):
-            continue
-        part = PART.search(place)
-        out.append((part.group(1) or "", part.group(2), what) if part else ("", place, what))
+    out, crate = [], ""
+    for place, what, begins in PLACE.findall(log):
+        if begins:
+            crate = begins
+        elif not WAITS.search(what):
+            out.append((crate, place, what))
     return out
 
 

@@ -1,7 +1,8 @@
 #!/usr/bin/env python3
 """Changes one definition at a time, each a hole that a filter could have, and expects a law or a theorem to refuse it.
 
-The proofs run over a copy of the crates without their code (cut.py), so that the refusal is one of a fact about the definitions.
+The proofs run over a copy of the crates without their code (cut.py), so that the refusal is one of a fact about the definitions. That copy is
+proved once; each edit is tried over what was proved there, so that only what it changed is proved anew.
 An edit passes when the crates below still have well-formed definitions and some proof is refused; which one is printed.
 An edit with a line `belief: NAME` is the hole that a false belief would leave. It is tried a second time, over what crates/beliefs stands on
 alone, and there the refutation of that name must be refused.
@@ -27,11 +28,21 @@ REPO = HERE.parent.parent
 # the crates whose theorems are asked: those about every sequence, and the refuted beliefs
 ROOTS = {"theorems": ["queue", "safety"], "beliefs": ["beliefs"]}
 WHY = "--why" in sys.argv
+# a crate of which rt says in its summary neither that it is proved nor that it is not
+NO_ANSWER = re.compile(r"^\w+: failed \((?!1\)).*", re.M)
 
 
-def check(repo, roots):
-    """Proves the theorems; the exit status and all that was said."""
-    return edits.run(["rt", "check", *roots], repo, dict(os.environ, RT_JOBS="1", RT_CUT="700"))
+def check(repo, at_once):
+    """Proves the theorems of every crate of a cut copy; the exit status and all that was said."""
+    return edits.run(["rt", "all", "check", "--jobs", str(at_once)], repo, os.environ)
+
+
+def link_or_copy(source, target):
+    """What was proved is linked, since rt replaces such a file and never writes into it; all else is copied."""
+    if source.endswith(".oantt") or "/out/rlib/" in source:
+        os.link(source, target)
+    else:
+        shutil.copy2(source, target)
 
 
 def refused(status, log):
@@ -41,8 +52,9 @@ def refused(status, log):
     errors = edits.errors_of(log)
     if status != 1 or not errors:
         return [], "no answer, exit status %d: %s" % (status, log[-300:]), ""
-    if "step limit" in log:
-        return [], "no answer, the prover stopped at its step limit", ""
+    no_answer = NO_ANSWER.search(log)
+    if no_answer:
+        return [], "no answer: %s" % no_answer.group(), ""
     for error in errors:
         wrong = edits.no_fact(error)
         if wrong or not error[1].startswith("proofs/"):
@@ -60,12 +72,12 @@ def try_edit(path, kind, base, work):
     rule, changes, other = edits.read_edit(path)
     name = path.stem if kind == "theorems" else "%s, the belief" % path.stem
     repo = work / ("%s-%s" % (path.stem, kind))
-    shutil.copytree(base[kind], repo, symlinks=True)
+    shutil.copytree(base[kind], repo, symlinks=True, copy_function=link_or_copy)
     try:
         _, wrong = edits.apply(changes, repo / "crates")
         if wrong:
             return name, False, wrong
-        status, log = check(repo, ROOTS[kind])
+        status, log = check(repo, 1)
     finally:
         shutil.rmtree(repo)
     laws, wrong, why = refused(status, log)
@@ -87,7 +99,7 @@ def main():
         base = {kind: work / kind for kind in {k for _, k in items}}
         for kind in base:
             cut.cut(REPO, base[kind], ROOTS[kind])
-        for kind, (status, log) in zip(base, pool.map(lambda k: check(base[k], ROOTS[k]), base)):
+        for kind, (status, log) in zip(base, pool.map(lambda k: check(base[k], 2), base)):
             if status != 0:
                 count.add(kind, False, "not proved over the definitions as they are: " + log[-2000:])
                 return count.finish()
