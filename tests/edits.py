@@ -14,7 +14,7 @@ WAITS = re.compile(r"was not admitted|declarations? that depends? on|it calls `[
 # the proof file no longer fits the code: an operation more or fewer, and no fact that fails
 SHAPE = re.compile(r"has no (?:field )?`|that can be named from here")
 # the edit is no program or no definition
-ILL = re.compile(r"in scope|unknown|parse|expected a\b|unexpected|no such|not found|unresolved|mismatched types", re.I)
+ILL = re.compile(r"in scope|unknown|parse|expected a\b|unexpected|no such|not found|unresolved|mismatched types|expected type `\S*ℕ`.*`\S*ℤ`", re.I)
 
 
 def workers():
@@ -96,7 +96,7 @@ def no_fact(error):
     said = re.sub(r"^error(?:\[[\w-]+\])?: ", "", what)
     if SHAPE.search(said[:600]):
         return "the shape of the code changed, and no fact is refused: %s: %s" % (file, what[:300])
-    if ILL.search(re.sub(r"^(?:`[^`]*`: )+", "", said)[:70]):
+    if ILL.search(re.sub(r"^(?:`[^`]*`: )+", "", said)[:90]):
         return "the edit itself is ill-formed: %s: %s" % (file, what[:300])
     return ""
 
