@@ -1,8 +1,10 @@
 -- The book is sound, as it is computed, exactly where there are queues. Assumes nothing.
 --     Walked, walk-list, walk-yes   the chain from a pointer that ends gives its list of descriptors, and conversely
 --     sole-unmet               descriptors beside those met are over free words in turn
+--     ones f ds, Free1 f ds    a list with a 1 at each of ds; each has a 0 when its turn comes. Laws: ones-size, -other, ones_in, free-ones
 --     firsts-list              the first words that are marked are those of the receive queues
 --     lengths-recorded, recorded-lengths   the recorded lengths fit them exactly where they are recorded right
+--     member-case, fits-at, at-fits   one of a list or none; a length's test, as numbers
 --     Queues, sound-queues     a sound book has queues: heads, links, words in use, recorded lengths
 --     sound-yes                and a book that has queues is sound
 use Prim.Native.Nat.{ℕ, zero, suc, ◌≤◌, ◌<◌}
@@ -153,11 +155,11 @@ heads-walk w (q ∷ qs) u cs s l c =
 
 -- ---- the first words of the receive queues
 
-abbrev ones : List ℕ → List ℕ → List ℕ
+abbrev pub ones : List ℕ → List ℕ → List ℕ
 ones f [] = f
 ones f (d ∷ ds) = ones (set f d 1) ds
 
-abbrev Free1 : List ℕ → List ℕ → Type 0
+abbrev pub Free1 : List ℕ → List ℕ → Type 0
 Free1 f [] = Unit
 Free1 f (d ∷ ds) = (get_or f d 1 ≡ 0) × Free1 (set f d 1) ds
 
@@ -165,15 +167,15 @@ ones-append : (f xs ys : List ℕ) → ones f (xs ++ ys) ≡ ones (ones f xs) ys
 ones-append f [] ys = refl
 ones-append f (x ∷ xs) ys = ones-append (set f x 1) xs ys
 
-ones-size : (f ds : List ℕ) → length (ones f ds) ≡ length f
+pub ones-size : (f ds : List ℕ) → length (ones f ds) ≡ length f
 ones-size f [] = refl
 ones-size f (d ∷ ds) = ones-size (set f d 1) ds ∙ length-set f d 1
 
-ones-other : (f ds : List ℕ) (k : ℕ) → None k ds → get_or (ones f ds) k 0 ≡ get_or f k 0
+pub ones-other : (f ds : List ℕ) (k : ℕ) → None k ds → get_or (ones f ds) k 0 ≡ get_or f k 0
 ones-other f [] k n = refl
 ones-other f (d ∷ ds) k n = ones-other (set f d 1) ds k n.1 ∙ get_or-set_other f d k 1 0 n.0
 
-ones_in : (f ds : List ℕ) → length f ≡ 2048 → All (λ d. d ≤ 2044) ds → Apart ds → All (λ d. get_or (ones f ds) d 0 ≡ 1) ds
+pub ones_in : (f ds : List ℕ) → length f ≡ 2048 → All (λ d. d ≤ 2044) ds → Apart ds → All (λ d. get_or (ones f ds) d 0 ≡ 1) ds
 ones_in f [] l b a = tt
 ones_in f (d ∷ ds) l b a = (
   ones-other (set f d 1) ds d (all_map (Off d) (λ e. d ≢ e) (λ e o q. off-ne d e o (sym q)) ds a.0)
@@ -181,7 +183,7 @@ ones_in f (d ∷ ds) l b a = (
   ones_in (set f d 1) ds (length-set f d 1 ∙ l) b.1 a.1,
 )
 
-free-ones : (f ds : List ℕ) → length f ≡ 2048 → All (λ d. d ≤ 2044) ds → Apart ds → All (λ d. get_or f d 0 ≡ 0) ds → Free1 f ds
+pub free-ones : (f ds : List ℕ) → length f ≡ 2048 → All (λ d. d ≤ 2044) ds → Apart ds → All (λ d. get_or f d 0 ≡ 0) ds → Free1 f ds
 free-ones f [] l b a z = tt
 free-ones f (d ∷ ds) l b a z =
     (get_or-in f d 1 0 (omega arith) ∙ z.0, free-ones (set f d 1) ds (length-set f d 1 ∙ l) b.1 a.1 (keep ds a.0 z.1))
@@ -246,7 +248,7 @@ each-lengths (f ∷ fs) [] e h = absurd (omega arith)
 each-lengths (f ∷ fs) (l ∷ ls) e h = rw (h zero) (each-lengths fs ls (omega arith) (λ k. h (suc k)))
 
 -- k is none of a list, or what holds of each holds of k
-member-case : (P : ℕ → Type 0) (Q : Type 0) (k : ℕ) (ds : List ℕ) → All P ds → (None k ds → Q) → (P k → Q) → Q
+pub member-case : (P : ℕ → Type 0) (Q : Type 0) (k : ℕ) (ds : List ℕ) → All P ds → (None k ds → Q) → (P k → Q) → Q
 member-case P Q k [] a f g = f tt
 member-case P Q k (d ∷ ds) a f g = at (none_or k d) (member-case P Q k ds a.1)
   where
@@ -254,10 +256,10 @@ member-case P Q k (d ∷ ds) a f g = at (none_or k d) (member-case P Q k ds a.1)
     at (inl e) h = g (rw e a.0)
     at (inr n) h = h (λ m. f (n, m)) g
 
-fits-at : (x : ℕ) → both (leb 1 x) (leb x length_max) ≡ true → Fits x
+pub fits-at : (x : ℕ) → both (leb 1 x) (leb x length_max) ≡ true → Fits x
 fits-at x e = (leb-true 1 x (both_left (leb 1 x) _ e), leb-true x length_max (both_right (leb 1 x) _ e))
 
-at-fits : (x : ℕ) → Fits x → both (leb 1 x) (leb x length_max) ≡ true
+pub at-fits : (x : ℕ) → Fits x → both (leb 1 x) (leb x length_max) ≡ true
 at-fits x f = simp (le-leb 1 x f.0, le-leb x length_max f.1)
 
 lengths-recorded : (rx lens : List ℕ) → All (λ d. d ≤ 2044) rx → Apart rx → lengths_fit (ones empty_set rx) lens ≡ true → Recorded lens rx

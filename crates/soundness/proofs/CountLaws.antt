@@ -21,11 +21,11 @@ use Rattle.layout.proofs.ChoiceLaws.{both_left, both_right}
 use Rattle.words.specs.WordSet.{empty_set, free_at, used_at, add_four, words_in_use}
 use Rattle.words.proofs.SetLaws.{four, length-empty_set, get_or-empty_set}
 use Rattle.soundness.specs.Spent.{all_ones}
-use Rattle.soundness.proofs.Lists.{All, Apart, Outside, within, count, Sole, Recorded, Unmet, add_all}
-use Rattle.soundness.proofs.LinkLaws.{all_map, all-every}
-use Rattle.soundness.proofs.SoleLaws.{within-true, within-false, count-in, outside-count, sole-empty, sole-unique}
-use Rattle.soundness.proofs.ReceivingLaws.{Fits, sole-add-all}
-use Rattle.soundness.proofs.SoundLaws.{ones, Free1, ones-size, ones-other, ones_in, free-ones, member-case, sole-unmet}
+use Rattle.queue.proofs.Queue.{All, Apart, Outside, within, count, Sole, Recorded, Unmet, add_all}
+use Rattle.queue.proofs.LinkLaws.{all_map, all-every}
+use Rattle.queue.proofs.SoleLaws.{within-true, within-false, count-in, outside-count, sole-empty, sole-unique}
+use Rattle.queue.proofs.RecordLaws.{Fits, sole-add-all}
+use Rattle.queue.proofs.SoundLaws.{ones, Free1, ones-size, ones-other, ones_in, free-ones, member-case, sole-unmet}
 
 -- ---- two lists
 

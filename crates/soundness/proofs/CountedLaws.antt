@@ -21,11 +21,11 @@ use Rattle.words.specs.WordSet.{empty_set, free_at, used_at, add_four, words_in_
 use Rattle.book.specs.Sound.{sound}
 use Rattle.soundness.specs.Spent.{SOut, all_ones, ask_words, ask_buffer, lost, transmit_heads, receive_heads, words_to_meet, transmit_left}
 use Rattle.soundness.specs.Spent.{receive_left, counted_sound}
-use Rattle.soundness.proofs.Lists.{start, All, LinkedAll, count, Sole, Recorded, flat, starts, receiving, Unmet, add_all}
-use Rattle.soundness.proofs.LinkLaws.{all_join}
-use Rattle.soundness.proofs.SoleLaws.{count-append, sole-apart, sole-perm}
-use Rattle.soundness.proofs.ReceivingLaws.{Fits, receiving-all, apart-receiving}
-use Rattle.soundness.proofs.SoundLaws.{Queues, sound-yes, sound-queues, linked-all-small, fits-at, at-fits}
+use Rattle.queue.proofs.Queue.{start, All, LinkedAll, count, Sole, Recorded, flat, starts, receiving, Unmet, add_all}
+use Rattle.queue.proofs.LinkLaws.{all_join}
+use Rattle.queue.proofs.SoleLaws.{count-append, sole-apart, sole-perm}
+use Rattle.queue.proofs.RecordLaws.{Fits, receiving-all, apart-receiving}
+use Rattle.queue.proofs.SoundLaws.{Queues, sound-yes, sound-queues, linked-all-small, fits-at, at-fits}
 use Rattle.soundness.proofs.SpentLaws.{Asked, asked-left, asked-right, asked-join, all-lost, Taken, spent-queues, queues-spent}
 use Rattle.soundness.proofs.CountLaws.{counted-sole, sole-met, sole-many, sole-used, sole-ones, counted-recorded, recorded-many}
 

@@ -1,9 +1,4 @@
 pub mod StepLaws
-pub mod Lists
-pub mod LinkLaws
-pub mod SoleLaws
-pub mod ReceivingLaws
-pub mod SoundLaws
 pub mod SpentLaws
 pub mod CountLaws
 pub mod CountedLaws

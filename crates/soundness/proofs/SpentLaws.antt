@@ -22,7 +22,7 @@ use Rattle.layout.proofs.ChoiceLaws.{both_left, both_right}
 use Rattle.layout.proofs.PointerLaws.{good_ptr-is, good_ptr-addr, word_of-addr}
 use Rattle.words.specs.WordSet.{add_four}
 use Rattle.soundness.specs.Spent.{SSt, SOut, lost, spend_step, spent_from, spent_all}
-use Rattle.soundness.proofs.Lists.{start, Linked, LinkedAll, flat, starts, add_all}
+use Rattle.queue.proofs.Queue.{start, Linked, LinkedAll, flat, starts, add_all}
 use Rattle.soundness.proofs.StepLaws.{spent-eq}
 
 abbrev pub Asked : (List ℕ → ℕ → Bool) → List ℕ → List ℕ → Type 0
