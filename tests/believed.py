@@ -29,7 +29,7 @@ ROWS = {
         "the starred cases and the bench's example",
         [("cases", "Starred", "Starred"), ("cases", "Example", "example_in"), ("cases", "Example", "example_out")],
     ),
-    "the bench": ("all that it hands to the write is `replay` of all that it read", [("player", "replay_file")]),
+    "the bench": ("where no read and no write fails, all that it hands to the write is `replay` of all that it read", [("player", "replay_file")]),
     "beliefs": (
         "four false beliefs",
         [("beliefs", "Beliefs", n) for n in ("EmptyQueue", "LengthNow", "LateAppend", "OldCode")],

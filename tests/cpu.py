@@ -75,26 +75,25 @@ def run(name, command):
             time.sleep(0.1)
     sums = {}
     for what, seconds in seen.values():
-        runs, whole = sums.get(what, (0, 0))
-        sums[what] = runs + 1, whole + seconds
+        sums[what] = sums.get(what, 0) + seconds
     FOLDER.mkdir(parents=True, exist_ok=True)
     with open(FOLDER / ("cpu-" + name), "w", encoding="utf-8") as out:
-        out.write("all all 1 %.1f\n" % (usage.ru_utime + usage.ru_stime))
-        for (crate, kind), (runs, seconds) in sums.items():
-            out.write("%s %s %d %.1f\n" % (crate, kind, runs, seconds))
+        out.write("all all %.1f\n" % (usage.ru_utime + usage.ru_stime))
+        for (crate, kind), seconds in sums.items():
+            out.write("%s %s %.1f\n" % (crate, kind, seconds))
     return child.returncode if child.returncode >= 0 else 128 - child.returncode
 
 
 def read(name):
-    """{crate: {kind: (runs, seconds)}}, and the sum that the system counted."""
+    """{crate: {kind: seconds}}, and the sum that the system counted."""
     sums, whole = {}, 0.0
     path = FOLDER / ("cpu-" + name)
     for line in path.read_text(encoding="utf-8").splitlines() if path.is_file() else []:
-        crate, kind, runs, seconds = line.split()
+        crate, kind, seconds = line.split()
         if kind == "all":
             whole = float(seconds)
         else:
-            sums.setdefault(crate, {})[kind] = int(runs), float(seconds)
+            sums.setdefault(crate, {})[kind] = float(seconds)
     return sums, whole
 
 
@@ -109,15 +108,15 @@ def table():
     print(form % ("crate", "CPU s (proof)", "CPU s (edits)", "edits", "CPU s (further)", "further"))
     rows = []
     for name in names:
-        proof = ci.get(name, {}).get("proof", (0, 0.0))[1]
-        edits = ci.get(name, {}).get("edit", (0, 0.0))[1]
+        proof = ci.get(name, {}).get("proof", 0.0)
+        edits = ci.get(name, {}).get("edit", 0.0)
         own = len(list((top / "crates" / name / "must-fail").glob("*.edit")))
-        further = sum(seconds for _, seconds in more.get(name, {}).values())
+        further = sum(more.get(name, {}).values())
         rows.append((proof, edits, own, further, len(list((top / "tests" / "more-edits" / name).glob("*.edit")))))
         print(form % (name, "%.1f" % proof, "%.1f" % edits, own, "%.1f" % further, rows[-1][4]))
     sums = [sum(column) for column in zip(*rows)]
     print(form % ("all", "%.1f" % sums[0], "%.1f" % sums[1], sums[2], "%.1f" % sums[3], sums[4]))
-    spent = sum(seconds for kinds in definitions.values() for _, seconds in kinds.values())
+    spent = sum(seconds for kinds in definitions.values() for seconds in kinds.values())
     print("changed definitions: %.1f CPU s for %d edits" % (spent, len(list((top / "tests" / "definition-edits").glob("*.edit")))))
     print("counted by the system, with the shells around: rt ci %.1f s, further edits %.1f s, changed definitions %.1f s" % (ci_whole, more_whole, definitions_whole))
     return 0

@@ -18,7 +18,7 @@ ILL = re.compile(r"in scope|unknown|parse|expected a\b|unexpected|no such|not fo
 
 
 def workers():
-    """How many to try at a time: RT_JOBS, else as rt itself counts, the processors and at most 4."""
+    """How many to try at a time: RT_JOBS, else the processors, at most 4."""
     return int(os.environ.get("RT_JOBS") or min(os.cpu_count() or 1, 4))
 
 
@@ -43,23 +43,16 @@ def read_edit(path):
 
 
 def apply(changes, folder):
-    """Makes the changes below a folder. Gives the texts as they were, for `restore`, and what is wrong with the edit, or ''."""
-    kept = {}
+    """Makes the changes below a folder; what is wrong with the edit, or ''."""
     for name, old, new in changes:
         target = folder / name
         if not target.is_file():
-            return kept, "there is no file %s" % name
+            return "there is no file %s" % name
         text = target.read_text(encoding="utf-8")
-        kept.setdefault(target, text)
         if not old or text.count(old) != 1:
-            return kept, "`%s` stands %d times in %s" % (old, text.count(old), name)
+            return "`%s` stands %d times in %s" % (old, text.count(old), name)
         target.write_text(text.replace(old, new), encoding="utf-8")
-    return kept, "" if changes else "it has no change"
-
-
-def restore(kept):
-    for target, text in kept.items():
-        target.write_text(text, encoding="utf-8")
+    return "" if changes else "it has no change"
 
 
 def copy_crates(repo, target):

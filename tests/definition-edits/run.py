@@ -74,7 +74,7 @@ def try_edit(path, kind, base, work):
     repo = work / ("%s-%s" % (path.stem, kind))
     shutil.copytree(base[kind], repo, symlinks=True, copy_function=link_or_copy)
     try:
-        _, wrong = edits.apply(changes, repo / "crates")
+        wrong = edits.apply(changes, repo / "crates")
         if wrong:
             return name, False, wrong
         status, log = check(repo, 1)

@@ -6,7 +6,7 @@ what a check of the crate as it stands proved, so that only what an edit changed
 not for a name that is gone, not for a text that cannot be read, and not for a limit of the prover.
 usage: run.py [--why] [CRATE[/NAME] ..]   all edits of this folder, by `rt ci`, which takes the proofs that the gate just made;
                                           or those named, by `rt must-fail`, which begins with what `rt check` kept; --why prints the refusals too.
-What was tried once on this machine is not tried again while nothing that it stands on changes. RT_JOBS at a time, as rt counts.
+What was tried once on this machine is not tried again while nothing that it stands on changes. As many at a time as rt takes: RT_JOBS, else the processors.
 Last line: 'N passed, M failed'.
 """
 import os

@@ -1,6 +1,6 @@
 /* The probe of tests/PROBE.md over the proved code: reads cases, each a whole state and one call, and prints the answer and the whole state
  * afterwards. Guest writes and kind changes go through the face to C (include/gresomund.h, libgresomund.a); where the state was fit and sound
- * the entry named _sound is called on the same state too, and must leave the same. Frames, steps and unguarded writes go through crates/rig
+ * the entry named _sound is called on the same state too, and must leave the same. Frames, steps and unguarded writes go through crates/rig_c
  * (librig.a). Status 1: the two entries differed, which is said on standard error; the lines then stop, so that the comparison fails too. */
 #include "gresomund.h"
 #include <stdint.h>

@@ -268,8 +268,7 @@ pub reached-over : (s : Run) (m k t u l x y : List ℕ) (r : Run) (m1 k1 t1 u1 l
     r.window x1) r.window.ended
 reached-over s m k t u l x y r m1 k1 t1 u1 l1 x1 y1 a read wrote n f =
     let v = a.stands read wrote n f in
-    let place = v.0.place in
     let w = window_of r.window x1 in
-    let e : r.going ≡ false = not_going r.going r.offset (length w) v.1 (omega (arith, place, n)) in
+    let e = reached-going s m k t u l x y r m1 k1 t1 u1 l1 x1 y1 a read wrote n f in
     subst (λ (z : Bool). Lines (read ++ a.got) (wrote ++ a.put) (take r.at y1) z r.offset (machine_at r.ctl m1 k1 t1 u1 l1) w
     r.window.ended) e v.0.lines

@@ -2,12 +2,13 @@
 // Promises: over all bytes read so far, the bytes handed to the write and those gathered are what `replay` prints up to there; a fresh
 // machine with the first record's kinds stands at the beginning; the last line is `replay`'s.
 // Where the reader says which bytes it has left and the writer which it holds, `replay` of those is what is added to these. What a
-// file does is not promised. Where the reader or the writer fails, its error is answered; no other error comes.
+// file does is not promised. Where a read or a write fails, its error is answered and the buffers keep their sizes; that no other error
+// comes is to be read in the code, where each is passed on by `?`.
 // Document 01, "The bench".
 
 #![tactic(auto)]
 
-ghost use Rattle.std.specs.Prelude.{◌≡◌, true, false, List, ℕ, ◌+◌, ◌-◌, ◌*◌, ◌≤◌, ◌<◌, min, length, take, drop, replicate};
+ghost use Rattle.std.specs.Prelude.{◌≡◌, true, false, ℕ, ◌+◌, ◌-◌, ◌≤◌, ◌<◌, min, length, take, drop, replicate};
 ghost use Rattle.std.specs.Prelude.{IfOk, OnOk, OnErr, IfSome};
 ghost use Rattle.std.proofs.Math.Seq.{paste};
 ghost use Rattle.std.specs.Io.KnownBytes.{Appends};
@@ -18,7 +19,7 @@ ghost use Rattle.records.specs.Records.{ram_max, record_max, decode};
 ghost use Rattle.replay.specs.Replay.{replay};
 ghost use Rattle.records.specs.Lines.{line_max, sent_line, bad_line};
 ghost use Rattle.window.specs.Window.{window_of, Inside};
-ghost use Rattle.player.specs.Stands.{Enough, Stands, Holds, offset_end, run_at};
+ghost use Rattle.player.specs.Stands.{Enough, Holds, offset_end, run_at};
 ghost use Rattle.player.specs.Turns.{gathered_max, room_min, kept_at, flushed, size_of, kinds_of, kinds_in, Ends, Went, Begun, Fresh};
 ghost use Rattle.player.specs.Turns.{Acted, Turned, Reached, Printed, Replayed, Untouched, Broken};
 ghost use Rattle.player.specs.Streams.{shown, TurnedOn, ReachedOn, PrintedOn};

@@ -12,7 +12,7 @@ use Prim.Native.Nat.{ℕ, zero, suc, ◌+◌, ◌-◌, ◌≤◌, ◌<◌}
 use mathlib.Core.Path.{◌≡◌, refl, ap, ◌∙◌, sym}
 use mathlib.Core.Bool.{Bool, true, false, not}
 use mathlib.Core.Logic.{◌⊎◌, inl, inr}
-use mathlib.Core.List.{List, [], ◌∷◌, ◌++◌}
+use mathlib.Core.List.{List, [], ◌∷◌, ◌++◌, append-nil}
 use native.Mathlib.Nat.{zero-add}
 use native.Mathlib.Numerals.{add-one}
 use native.Mathlib.Omega.{arith}
@@ -22,18 +22,12 @@ use lib.Seq.{length-slice, drop-drop, get_or-drop, take-append-add, take-append-
 use lib.Dec.{ltb}
 use borrow.Author.Tests.{ltb-true, ltb-false, lt-ltb, le-ltb}
 use Rattle.layout.specs.Choice.{pick, both}
+use Rattle.layout.proofs.ChoiceLaws.{clash}
 use Rattle.std.proofs.Common.{le_refl, drop_at}
 use Rattle.std.proofs.lemmas.Slice.{take-put_mid_below}
 use borrow.Rule.Slice.PartMut.{mid_of, post_of, put_mid, same_len_mid, mid_len}
 use Rattle.window.specs.declared.Window.{Window}
 use Rattle.window.specs.Window.{window_of, Inside, lacks, Refilled, Kept, Passed}
-
-append-none : (l : List ℕ) → l ++ [] ≡ l
-append-none [] = refl
-append-none (x ∷ l) = ap (λ (k : List ℕ). x ∷ k) (append-none l)
-
-clash : {A : Type 0} {b : Bool} → b ≡ true → b ≡ false → A
-clash p q = let z : ◌≡◌ {A = ℕ} 0 1 = cc in absurd (omega arith)
 
 both-no : (a : Bool) → both a false ≡ false
 both-no true = refl
@@ -111,7 +105,7 @@ module _ (wanted : ℕ) (w : Window) (x : List ℕ) (h : Inside w x) where
   refilled-stay : (wanted ≤ length (window_of w x)) ⊎ (w.ended ≡ true) → lacks wanted w ≡ false → Refilled wanted w x w x
   refilled-stay e f = record {
     got = [];
-    bytes = sym (append-none (window_of w x));
+    bytes = sym (append-nil (window_of w x));
     inside = h;
     enough = e;
     stays = λ t. (refl, t);

@@ -23,7 +23,8 @@ pub record Inside (w : Window) (x : List ℕ) : Type 0 where
 abbrev pub lacks : ℕ → Window → Bool
 lacks wanted w = both (ltb (w.len - w.from) wanted) (not w.ended)
 
--- what was read is `got`: nothing, where nothing is lacking; the input has ended exactly where the read left room in the buffer
+-- what was read is `got`: nothing, where the input had ended; where bytes are lacking, it has ended now exactly where the read left room
+-- in the buffer, and else it says what it said
 pub record Refilled (wanted : ℕ) (w : Window) (x : List ℕ) (r : Window) (y : List ℕ) : Type 0 where
   pub got : List ℕ
   pub bytes : window_of r y ≡ window_of w x ++ got

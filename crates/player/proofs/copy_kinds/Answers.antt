@@ -1,3 +1,4 @@
+-- `player::copy_kinds`: one kind more is copied. Assumes nothing.
 use Rattle.std.proofs.Common.{◌+◌, ◌<◌, length, length-set, arith}
 use Rattle.player.proofs.FirstLaws.{copy_more}
 use Rattle.player.proofs.copy_kinds.Goals as goal

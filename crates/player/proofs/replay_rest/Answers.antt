@@ -1,3 +1,4 @@
+-- `player::replay_rest`: a turn more, and none left. Assumes nothing.
 use Rattle.std.proofs.Common.{◌+◌, ◌-◌, ◌≤◌, refl, ◌∙◌, arith}
 use Rattle.player.specs.Stands.{offset_end}
 use Rattle.player.proofs.StandLaws.{still}

@@ -1,3 +1,4 @@
+-- `window::read_full`: what was read lies behind what lay there. Assumes nothing.
 use Rattle.std.proofs.Common.{rules, sym, subst}
 use Rattle.std.specs.Io.KnownBytes.{Consumes}
 use Rattle.std.proofs.KnownBytes.{Consumes-trans}

@@ -1,3 +1,4 @@
+-- `window::shift`: one byte more is moved. Assumes nothing.
 use Rattle.std.proofs.Common.{◌+◌, ◌<◌, length, length-set, arith}
 use Rattle.window.proofs.WindowLaws.{shift-more}
 use Rattle.window.proofs.shift.Goals as goal
