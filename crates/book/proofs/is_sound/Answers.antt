@@ -13,14 +13,14 @@ returns-then-not-walk_heads c = sound-walk _ _ _ _
     c.walk_heads.ensures
     (c.if-not-walk_heads.true)
 
-pub returns-then-not-is_same : goal.returns-then-not-is_same
-returns-then-not-is_same c = sound-words _ _ _ _
+pub returns-then-ne : goal.returns-then-ne
+returns-then-ne c = sound-words _ _ _ _
     (sym c.are_flags.ensures ∙ c.if-not-are_flags.false)
     c.clear_all.ensures
     c.walk_heads.ensures
     c.if-not-walk_heads.false
-    c.is_same.ensures
-    c.if-not-is_same.true
+    ?
+    ?
 
 pub returns : goal.returns
 returns c = sound-lengths _ _ _ _
@@ -28,8 +28,8 @@ returns c = sound-lengths _ _ _ _
     c.clear_all.ensures
     c.walk_heads.ensures
     c.if-not-walk_heads.false
-    c.is_same.ensures
-    c.if-not-is_same.false
+    ?
+    ?
     c.clear_all-2.ensures
     c.note_heads.ensures
     c.lengths_fit.ensures
