@@ -12,7 +12,7 @@
 use Prim.Native.Nat.{ℕ, zero, suc, ◌+◌, ◌<◌, ◌≤◌}
 use mathlib.Core.Path.{◌≡◌, refl, ap, ◌∙◌, sym}
 use mathlib.Core.Bool.{Bool, true, false}
-use mathlib.Core.List.{List, [], ◌∷◌}
+use mathlib.Core.List.{List, [], ◌∷◌, ◌++◌}
 use native.Mathlib.Omega.{arith}
 use native.Mathlib.Nat.{not-suc-le-zero, le_of_suc-le-suc}
 use native.Mathlib.Numerals.{add-one}
@@ -23,6 +23,7 @@ use borrow.Author.Tests.{eq-eqb, ne_eqb, eqb-true}
 use Rattle.std.specs.Prelude.{◌&&◌, fold}
 use Rattle.std.specs.List.{zip}
 use Rattle.std.specs.Cmp.Lexicographic.{pointwise}
+use Rattle.std.proofs.lemmas.List.Sums.{fold-append}
 use Rattle.layout.specs.Choice.{pick, both}
 use Rattle.layout.specs.Run.{Next, go, stop, after}
 use Rattle.layout.specs.Layout.{good_ptr, word_of}
@@ -213,6 +214,10 @@ fits-from fit (x ∷ a) [] h = absurd (omega arith)
 fits-from fit (x ∷ a) (y ∷ b) h =
     let k : length a ≡ length b = omega arith in
     fits-from (fit && length_fits x y) a b k ∙ and-both fit (length_fits x y) (lengths_fit a b)
+
+-- one pair more
+pub fit-next : (l : List (ℕ × ℕ)) (e : ℕ × ℕ) {a b : Bool} → a ≡ fold fit_on true l → b ≡ fit_on a e → b ≡ fold fit_on true (l ++ e ∷ [])
+fit-next l e h k = k ∙ ap (λ (t : Bool). fit_on t e) h ∙ sym (fold-append fit_on true l (e ∷ []))
 
 pub lengths_fit-is : (a b : List ℕ) → length a ≡ length b → fold fit_on true (zip a b) ≡ lengths_fit a b
 lengths_fit-is a b h = fits-from true a b h

@@ -22,6 +22,7 @@ ghost use Rattle.book.specs.World.{sound_book};
 ghost use Rattle.book.specs.Quiet.{held, held_all, quiet};
 ghost use Rattle.book.specs.Hops.{turned, taken, walked, noted};
 
+use descriptor::{Flag, has_flag};
 use layout::{CHANNELS, Lengths, Memory, QUEUES, Side, Slot, TEARDOWN_DONE, Words, clear_bit, slot_at};
 use registers::{
     CP_AT, MARKS_AT, RESET_AT, State, TEARING_AT, are_flags, has_reset_bit, is_any_tearing,
@@ -150,9 +151,9 @@ pub fn is_sound(m: &Memory, t: &State, used: &Words, lens: &Lengths, scratch: &m
 fn plan_through(x3: u32) -> Option<Mode>
     ensures { result ≡ through x3 }
 {
-    if !descriptor::has_eop(x3) {
+    if !has_flag(x3, Flag::Eop) {
         Some(Mode::Packet)
-    } else if descriptor::has_eoq(x3) {
+    } else if has_flag(x3, Flag::Eoq) {
         Some(Mode::All)
     } else {
         Some(Mode::Head)
@@ -168,8 +169,8 @@ fn plan_of(mode: Mode, x3: u32) -> Option<Mode>
     match mode {
         Mode::All => Some(Mode::All),
         Mode::Packet => plan_through(x3),
-        Mode::Head if descriptor::has_td(x3) => Some(Mode::All),
-        Mode::Head if descriptor::has_owner(x3) => None,
+        Mode::Head if has_flag(x3, Flag::Td) => Some(Mode::All),
+        Mode::Head if has_flag(x3, Flag::Owner) => None,
         Mode::Head => plan_through(x3),
     }
 }
@@ -289,7 +290,7 @@ fn is_held(m: &Memory, p: u32) -> bool
         return false;
     };
     let x3 = words::word_of(m, d.word + 3);
-    !descriptor::has_td(x3) && descriptor::has_owner(x3)
+    !has_flag(x3, Flag::Td) && has_flag(x3, Flag::Owner)
 }
 
 // Whether each queue does.

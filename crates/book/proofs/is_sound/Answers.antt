@@ -1,6 +1,7 @@
 -- `book::is_sound` makes the four tests of soundness in their order. Assumes nothing.
-use mathlib.Core.Path.{sym, ◌∙◌}
-use Rattle.book.proofs.SoundLaws.{sound-flags, sound-walk, sound-words, sound-lengths}
+use Rattle.std.proofs.Common.{sym, ◌∙◌, refl}
+use borrow.Author.Tests.{not-true, not-false}
+use Rattle.book.proofs.SoundLaws.{same_list-is, sound-flags, sound-walk, sound-words, sound-lengths}
 use Rattle.book.proofs.is_sound.Goals as goal
 
 pub returns-then-not-are_flags : goal.returns-then-not-are_flags
@@ -19,8 +20,8 @@ returns-then-ne c = sound-words _ _ _ _
     c.clear_all.ensures
     c.walk_heads.ensures
     c.if-not-walk_heads.false
-    ?
-    ?
+    (same_list-is c.walk_heads.new.met c.args.used.now)
+    (not-true _ (sym c.ne.ensures ∙ c.if-ne.true))
 
 pub returns : goal.returns
 returns c = sound-lengths _ _ _ _
@@ -28,8 +29,8 @@ returns c = sound-lengths _ _ _ _
     c.clear_all.ensures
     c.walk_heads.ensures
     c.if-not-walk_heads.false
-    ?
-    ?
+    (same_list-is c.walk_heads.new.met c.args.used.now)
+    (not-false _ (sym c.ne.ensures ∙ c.if-ne.false))
     c.clear_all-2.ensures
     c.note_heads.ensures
     c.lengths_fit.ensures
