@@ -8,6 +8,7 @@ use Prim.Native.Nat.{ℕ, ◌+◌, ◌<◌}
 use mathlib.Core.Path.{◌≡◌, refl, ap, ◌∙◌, sym}
 use mathlib.Core.Bool.{Bool, true, false}
 use native.Mathlib.Omega.{arith}
+use Rattle.std.specs.Prelude.{Option, Some}
 use Rattle.layout.specs.Choice.{pick}
 use Rattle.layout.specs.Run.{Next, go, stop, after}
 use Rattle.layout.specs.Layout.{good_ptr, word_of}
@@ -15,8 +16,6 @@ use Rattle.layout.specs.declared.Side.{Side}
 use Rattle.layout.proofs.RunLaws.{run-eq}
 use Rattle.words.specs.WordSet.{free_at, free_count}
 use Rattle.words.proofs.SetLaws.{free_count-falls}
-use Rattle.book.specs.declared.Hop.{Hop}
-use Rattle.book.specs.declared.Hop.TheVariants.{Go}
 use Rattle.book.specs.HandOver.{Uses, take_one, hand_over_step, taken_from}
 use Rattle.book.specs.Hops.{taken}
 
@@ -81,12 +80,12 @@ module _ (w : ℕ → ℕ) (side : Side) (u : Uses) (p : ℕ) where
     unfolding hand_over_step
     taken-go h = taken-eq ∙ simp (g, h)
 
-  module _ {r : Hop} (v : Uses) (told : taken r v ≡ hand_over_step w side (u, p)) where
-    pub taken-hop : (h : Hop) → r ≡ h → {o : Uses} → o ≡ after (taken h v) (λ s. taken_from w side s.0 s.1) → o ≡ taken_from w side u p
-    taken-hop h e q =
-        q
-        ∙ ap (λ (n : Next (Uses × ℕ) Uses). after n (λ s. taken_from w side s.0 s.1)) (ap (λ (x : Hop). taken x v) (sym e) ∙ told)
-        ∙ sym taken-eq
+  -- one step told: the hand-over goes on, or it is over
+  pub taken-on : {v : Uses} {next : ℕ} → go (v, next) ≡ hand_over_step w side (u, p) → taken_from w side v next ≡ taken_from w side u p
+  taken-on e = sym (taken-eq ∙ ap (λ (n : Next (Uses × ℕ) Uses). after n (λ s. taken_from w side s.0 s.1)) (sym e))
 
-    pub hop-falls : (next n : ℕ) → r ≡ Go next → free_count u.0 ≡ n → free_count v.0 < n
-    hop-falls next n e q = rw (← q) (hand_over_step-falls w side (u, p) (v, next) (sym told ∙ ap (λ (x : Hop). taken x v) e))
+  pub taken-over : {o : Uses} → stop o ≡ hand_over_step w side (u, p) → o ≡ taken_from w side u p
+  taken-over e = sym (taken-eq ∙ ap (λ (n : Next (Uses × ℕ) Uses). after n (λ s. taken_from w side s.0 s.1)) (sym e))
+
+  pub taken-falls : {v : Uses} {next : ℕ} → go (v, next) ≡ hand_over_step w side (u, p) → free_count v.0 < free_count u.0
+  taken-falls e = hand_over_step-falls w side (u, p) _ (sym e)
