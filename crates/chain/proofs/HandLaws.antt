@@ -1,12 +1,10 @@
--- What the rules and their leaves hand on, as steps of the judge. Assumes nothing.
---     desc_fault-words               a descriptor's fault, by its four words
---     unpacked-packed               a number and its place come out of the packed number as they went in
---     step-refused, step_past       a step by the one number that holds 12 to 17
---     transmit-refused, transmit-past, receive-refused, receive-end, receive-past   what each leaf hands on
---     transmit-eq, receive-eq       what a rule answers is what follows the hand that it was given
---     transmit-less, receive-less   and that is over fewer words
---     follow-told                   the place in such a number is a word; where the number is 16, the descriptor there has its length in
---                                   order
+-- What the rules and their leaf hand on, as steps of the judge. Assumes nothing.
+--     fault_of-at                    a descriptor's fault, by its four words
+--     refused-bad, refused-used, refused-at, judged-past   what the leaf hands on
+--     hand-refused, hand-end, hand-go   what a rule answers is what follows the hand that it was given
+--     hand-less                     and that is over fewer words
+--     follow-told                   the number and the place in what the rules answer; where the number is 16, the descriptor there has its
+--                                   length in order
 --     measured-words, buffer_room-words   the descriptor there, by its four words
 --     said-good, said_plain, said-barred   the answer, by the number
 --     verdict-told                  the answer from the rules' number
@@ -19,8 +17,11 @@ use mathlib.Core.List.{List, []}
 use native.Mathlib.Omega.{arith}
 use lib.Dec.{eqb}
 use borrow.Author.Tests.{eq-eqb, ne_eqb}
+use Rattle.std.specs.Prelude.{Result, Ok, Err}
 use Rattle.layout.specs.Choice.{pick, or_else}
 use Rattle.layout.proofs.ChoiceLaws.{both_left, both_right}
+use Rattle.layout.specs.Refusals.{refusal_number, fault}
+use Rattle.layout.specs.declared.refusals.Refusal.{Refusal}
 use Rattle.layout.specs.Run.{Next, go, stop, after}
 use Rattle.layout.specs.Layout.{good_ptr, word_of}
 use Rattle.layout.specs.declared.Side.{Side}
@@ -29,119 +30,53 @@ use Rattle.words.specs.WordSet.{add_four, free_count}
 use Rattle.blocks.specs.Room.{room_of}
 use Rattle.blocks.specs.declared.Room.{Room}
 use Rattle.blocks.specs.declared.Room.TheVariants.{Free}
-use Rattle.descriptor.specs.Fields.{desc_at, eop, length_of, first_byte}
-use Rattle.descriptor.specs.Rules.{side_at, flags_fault, length_fault, sop_at, sum_at, sum_fault, behind, next_fault}
-use Rattle.descriptor.proofs.RuleLaws.{behind-end, behind-inside}
+use Rattle.descriptor.specs.Fields.{desc_at, length_of, first_byte}
+use Rattle.descriptor.specs.Rules.{side_at, length_fault, behind}
 use Rattle.descriptor.specs.declared.Descriptor.{Descriptor}
 use Rattle.descriptor.specs.declared.Place.{Place}
-use Rattle.descriptor.specs.declared.Place.TheVariants.{Buffer}
-use Rattle.chain.specs.declared.TransmitHand.{TransmitHand}
-use Rattle.chain.specs.declared.TransmitHand.TheVariants as transmit
-use Rattle.chain.specs.declared.ReceiveHand.{ReceiveHand}
-use Rattle.chain.specs.declared.ReceiveHand.TheVariants as receive
-use Rattle.chain.specs.declared.Verdict.{Verdict}
-use Rattle.chain.specs.declared.Verdict.TheVariants.{Good, Bad}
-use Rattle.chain.specs.Chain.{block_fault, desc_fault, JSt, JOut, past_desc, judge_step, chain_of, place_of, buffer_room, said, verdict_of}
-use Rattle.chain.specs.Hands.{packed, unpacked, fault_at, Measured, single, transmit_past, transmit_step, receive_step}
+use Rattle.chain.specs.declared.Fault.{Fault}
+use Rattle.chain.specs.Chain.{desc_fault, JSt, JOut, past_desc, judge_step, chain_of, place_of, buffer_room, Said, said, verdict_of, told}
+use Rattle.chain.specs.Hands.{unpacked, fault_of, fault_at, judged, IsNumber, Measured, single}
 use Rattle.chain.proofs.ChainLaws.{fault_at-step, fault_at-16, judge_step-falls, chain-eq, chain-place}
 
--- ---- a descriptor by its four words
-
-pub desc_fault-words : (kinds : List ℕ) (w : ℕ → ℕ) (pl : Place) (k : ℕ) (d : Descriptor) → d ≡ desc_at w k
-    → desc_fault kinds w pl k
-    ≡ or_else (flags_fault pl d.word3)
-    (or_else (length_fault (side_at pl) d.buffer d.word2 d.word3)
-    (or_else (block_fault kinds (side_at pl) d.buffer d.word2 d.word3)
-    (or_else (sum_fault pl d.word2 d.word3) (next_fault (behind pl d.word2 d.word3) d.next))))
-unfolding desc_fault desc_at
-desc_fault-words kinds w pl k d e = rw e refl
-
--- ---- what a leaf hands on
-
-pub unpacked-packed : (n p : ℕ) (met : List ℕ) → n < 256 → unpacked (packed n p) met ≡ (n, p, met)
-unpacked-packed n p met h =
-    let a : (n + 256 * p) % 256 ≡ n = omega arith in
-    let b : (n + 256 * p) / 256 ≡ p = omega arith in
-    rw (a, b) refl
-
-module _ (kinds : List ℕ) (w : ℕ → ℕ) (pl : Place) (met : List ℕ) (p n : ℕ) (is : n ≡ fault_at kinds w pl met p) where
-  step-refused : (v : ℕ) → n ≢ 0 → n < 256 → v ≡ packed n p → stop (unpacked v met) ≡ judge_step kinds w (pl, met, p)
-  step-refused v z h e =
-      rw (e, unpacked-packed n p met h)
-      (sym (fault_at-step kinds w pl met p ∙ rw (← is, ne_eqb n 0 z) refl))
-
-  step_past : (k : ℕ) → n ≡ 0 → k ≡ word_of p → past_desc w pl met k ≡ judge_step kinds w (pl, met, p)
-  step_past k z e = rw e (sym (fault_at-step kinds w pl met p ∙ rw (← is, eq-eqb n 0 z) refl))
-
-  pub transmit-refused : (v : ℕ) → n ≢ 0 → n < 256 → v ≡ packed n p → transmit_step (transmit.Stop v) met ≡ judge_step kinds w (pl, met, p)
-  unfolding transmit_step
-  transmit-refused v z h e = step-refused v z h e
-
-  pub receive-refused : (v : ℕ) → n ≢ 0 → n < 256 → v ≡ packed n p → receive_step (receive.Stop v) met ≡ judge_step kinds w (pl, met, p)
-  unfolding receive_step
-  receive-refused v z h e = step-refused v z h e
-
--- past a transmit descriptor the place behind it decides the rule
-past-transmit : (w : ℕ → ℕ) (pl : Place) (met : List ℕ) (k : ℕ) → side_at pl ≡ Transmit
-    → transmit_step (transmit_past pl (w k) (w (k + 2)) (w (k + 3))) (add_four met k) ≡ past_desc w pl met k
-unfolding transmit_past transmit_step
-past-transmit w pl met k s = at (eqb (w k) 0) (eop (w (k + 3))) refl
-  where
-    at : (a b : Bool) → eop (w (k + 3)) ≡ b
-        → transmit_step (pick a (transmit.Stop 0)
-        (pick b (transmit.Start (w k)) (transmit.Middle (w k) (sop_at pl (w (k + 3))) (sum_at pl (w (k + 2)))))) (add_four met k)
-        ≡ pick {A = Next JSt JOut} a (stop (0, 0, add_four met k)) (go (behind pl (w (k + 2)) (w (k + 3)), add_four met k, w k))
-    at true b e = refl
-    at false true e = rw (behind-end pl (w (k + 2)) (w (k + 3)) s e) refl
-    at false false e = rw (behind-inside pl (w (k + 2)) (w (k + 3)) s e) refl
-
-module _ (kinds : List ℕ) (w : ℕ → ℕ) (pl : Place) (met : List ℕ) (p n : ℕ) (is : n ≡ fault_at kinds w pl met p) (none : n ≡ 0)
-    (k : ℕ) (at-k : k ≡ word_of p) (l : List ℕ) (marked : l ≡ add_four met k) where
-  pub transmit-past : (d : Descriptor) (h : TransmitHand) → side_at pl ≡ Transmit → d ≡ desc_at w k
-      → h ≡ transmit_past pl d.next d.word2 d.word3
-      → transmit_step h l ≡ judge_step kinds w (pl, met, p)
-  unfolding desc_at
-  transmit-past d h s e q = rw (q, e, marked) (past-transmit w pl met k s) ∙ step_past kinds w pl met p n is k none at-k
-
-module _ (kinds : List ℕ) (w : ℕ → ℕ) (met : List ℕ) (p n : ℕ) (is : n ≡ fault_at kinds w Buffer met p) (none : n ≡ 0)
-    (k : ℕ) (at-k : k ≡ word_of p) (l : List ℕ) (marked : l ≡ add_four met k) (next : ℕ) (word-0 : next ≡ w k) where
-  pub receive-end : next ≡ 0 → receive_step (receive.Stop 0) l ≡ judge_step kinds w (Buffer, met, p)
-  unfolding receive_step
-  receive-end z = rw marked (sym (rw (eq-eqb (w k) 0 (sym word-0 ∙ z)) refl)) ∙ step_past kinds w Buffer met p n is k none at-k
-
-  pub receive-past : next ≢ 0 → receive_step (receive.Buffer next) l ≡ judge_step kinds w (Buffer, met, p)
-  unfolding receive_step behind
-  receive-past z = rw (marked, word-0) (sym (rw (ne_eqb (w k) 0 (λ e. z (word-0 ∙ e))) refl))
-      ∙ step_past kinds w Buffer met p n is k none at-k
+pub fault_of-at : (kinds : List ℕ) (w : ℕ → ℕ) (pl : Place) (k : ℕ) (d : Descriptor) → d ≡ desc_at w k
+    → fault_of kinds pl d ≡ desc_fault kinds w pl k
+unfolding fault_of desc_fault desc_at
+fault_of-at kinds w pl k d e = rw e refl
 
 -- ---- what a rule answers
 
-module _ (kinds : List ℕ) (w : ℕ → ℕ) (pl : Place) (met : List ℕ) (p : ℕ) where
-  -- the chain behind a step
-  abbrev rest : Next JSt JOut → JOut
-  rest x = after x (λ t. chain_of kinds w t.0 t.1 t.2)
+module _ (kinds : List ℕ) (w : ℕ → ℕ) (pl : Place) (met : List ℕ) (p : ℕ) (h : Result Descriptor Refusal) (l : List ℕ)
+    (is : judged pl p h l ≡ judge_step kinds w (pl, met, p)) where
+  -- the chain behind what was handed on
+  abbrev rest : Result Descriptor Refusal → JOut
+  rest g = after (judged pl p g l) (λ t. chain_of kinds w t.0 t.1 t.2)
 
-  module _ (x : Next JSt JOut) (is : x ≡ judge_step kinds w (pl, met, p)) where
-    step-eq : rest x ≡ chain_of kinds w pl met p
-    step-eq = sym (chain-eq kinds w pl met p ∙ ap (λ (z : Next JSt JOut). rest z) (sym is))
+  rest-eq : (g : Result Descriptor Refusal) → h ≡ g → rest g ≡ chain_of kinds w pl met p
+  rest-eq g e =
+      sym (chain-eq kinds w pl met p
+      ∙ ap (λ (z : Next JSt JOut). after z (λ t. chain_of kinds w t.0 t.1 t.2)) (rw e at (sym is)))
 
-    step_less : (s : JSt) → x ≡ go s → (t : ℕ) → free_count met ≡ t → free_count s.1 < t
-    step_less s g t μ = rw (← μ) (judge_step-falls kinds w (pl, met, p) s (sym is ∙ g))
+  pub hand-refused : (r : Refusal) → h ≡ Err r → (refusal_number r, p, l) ≡ chain_of kinds w pl met p
+  unfolding judged
+  hand-refused r e = rest-eq (Err r) e
 
-  module _ (h : TransmitHand) (l : List ℕ) (is : transmit_step h l ≡ judge_step kinds w (pl, met, p))
-      (g : TransmitHand) (given : h ≡ g) where
-    pub transmit-eq : rest (transmit_step g l) ≡ chain_of kinds w pl met p
-    transmit-eq = step-eq (transmit_step g l) (rw given at is)
+  module _ (d : Descriptor) (found : h ≡ Ok d) where
+    pub hand-end : d.next ≡ 0 → (0, 0, l) ≡ chain_of kinds w pl met p
+    unfolding judged
+    hand-end z = rw (eq-eqb d.next 0 z) at (rest-eq (Ok d) found)
 
-    pub transmit-less : (s : JSt) → transmit_step g l ≡ go s → (t : ℕ) → free_count met ≡ t → free_count s.1 < t
-    transmit-less s e t μ = step_less (transmit_step g l) (rw given at is) s e t μ
+    module _ (on : d.next ≢ 0) where
+      pub hand-go : chain_of kinds w (behind pl d.word2 d.word3) l d.next ≡ chain_of kinds w pl met p
+      unfolding judged
+      hand-go = rw (ne_eqb d.next 0 on) at (rest-eq (Ok d) found)
 
-  module _ (h : ReceiveHand) (l : List ℕ) (is : receive_step h l ≡ judge_step kinds w (pl, met, p)) (g : ReceiveHand) (given : h ≡ g) where
-    pub receive-eq : rest (receive_step g l) ≡ chain_of kinds w pl met p
-    receive-eq = step-eq (receive_step g l) (rw given at is)
+      goes : judge_step kinds w (pl, met, p) ≡ go (behind pl d.word2 d.word3, l, d.next)
+      unfolding judged
+      goes = sym is ∙ rw (found, ne_eqb d.next 0 on) refl
 
-    pub receive-less : (s : JSt) → receive_step g l ≡ go s → (t : ℕ) → free_count met ≡ t → free_count s.1 < t
-    receive-less s e t μ = step_less (receive_step g l) (rw given at is) s e t μ
+      pub hand-less : (t : ℕ) → free_count met ≡ t → free_count l < t
+      hand-less t μ = rw (← μ) (judge_step-falls kinds w (pl, met, p) (behind pl d.word2 d.word3, l, d.next) goes)
 
 -- ---- what is said of a chain
 
@@ -151,23 +86,24 @@ place_of-side Receive = refl
 
 module _ (kinds : List ℕ) (w : ℕ → ℕ) (side : Side) (met : List ℕ) (p v : ℕ) (l : List ℕ)
     (is : unpacked v l ≡ chain_of kinds w (place_of side) met p) where
-  pub follow-told : ((k : ℕ) → w k < 2 ^ 32) → p < 2 ^ 32 → (v / 256 < 2 ^ 32) × (v % 256 ≡ 16 → Measured w side (v / 256))
+  pub follow-told : ((k : ℕ) → w k < 2 ^ 32) → p < 2 ^ 32
+      → IsNumber (v % 256) × (v / 256 < 2 ^ 32) × (v % 256 ≡ 16 → Measured w side (v / 256))
   follow-told small h = rw (← is) at (chain-place kinds w small side (place_of side) met p (place_of-side side) h)
 
-  pub verdict-told : (r : Verdict) → r ≡ said kinds w side (v % 256, v / 256, []) → (r, l) ≡ verdict_of side kinds w met p
+  pub verdict-told : (r : Result Unit Said) → r ≡ said kinds w side (v % 256, v / 256, []) → (r, l) ≡ verdict_of side kinds w met p
   unfolding verdict_of
   verdict-told r e = rw (← is, e) refl
 
 -- the answer by the number n and its place p
 module _ (kinds : List ℕ) (w : ℕ → ℕ) (side : Side) (n p : ℕ) where
-  pub said-good : n ≡ 0 → Good ≡ said kinds w side (n, p, [])
+  pub said-good : n ≡ 0 → Ok tt ≡ said kinds w side (n, p, [])
   said-good z = rw (eq-eqb n 0 z) refl
 
-  pub said_plain : n ≢ 0 → n ≢ 16 → Bad (record { number = n; place = p; room = Free }) ≡ said kinds w side (n, p, [])
+  pub said_plain : n ≢ 0 → n ≢ 16 → Err (record { number = n; place = p; room = Free }) ≡ said kinds w side (n, p, [])
   said_plain z b = rw (ne_eqb n 0 z, ne_eqb n 16 b) refl
 
   pub said-barred : (room : Room) → n ≡ 16 → room ≡ buffer_room kinds w side (word_of p)
-      → Bad (record { number = n; place = p; room = room }) ≡ said kinds w side (n, p, [])
+      → Err (record { number = n; place = p; room = room }) ≡ said kinds w side (n, p, [])
   said-barred room b e = rw (← e, b) refl
 
 -- a chain of one descriptor: its fault is the chain's
@@ -198,7 +134,7 @@ module _ (kinds : List ℕ) (w : ℕ → ℕ) (side : Side) (met : List ℕ) (p 
       by true = refl
       by false = refl
 
-  pub verdict-single : single w p ≡ true → (r : Verdict) → r ≡ said kinds w side (n, p, []) → r ≡ (verdict_of side kinds w met p).0
+  pub verdict-single : single w p ≡ true → (r : Result Unit Said) → r ≡ said kinds w side (n, p, []) → r ≡ (verdict_of side kinds w met p).0
   unfolding verdict_of
   verdict-single e r q = q ∙ sym (ap (λ (j : JOut). said kinds w side j) (one-step e) ∙ by (eqb n 0) refl)
     where

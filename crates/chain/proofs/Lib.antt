@@ -1,4 +1,3 @@
 pub mod ChainLaws
 pub mod HandLaws
 pub mod VerdictLaws
-pub mod Settled
