@@ -1,5 +1,5 @@
 -- What the rules and their leaf hand on, as steps of the judge. Assumes nothing.
---     fault_of-at                    a descriptor's fault, by its four words
+--     fault_of_at                    a descriptor's fault, by its four words
 --     refused-bad, refused-used, refused-at, judged-past   what the leaf hands on
 --     hand-refused, hand-end, hand-go   what a rule answers is what follows the hand that it was given
 --     hand-less                     and that is over fewer words
@@ -39,10 +39,10 @@ use Rattle.chain.specs.Chain.{desc_fault, JSt, JOut, past_desc, judge_step, chai
 use Rattle.chain.specs.Hands.{unpacked, fault_of, fault_at, judged, IsNumber, Measured, single}
 use Rattle.chain.proofs.ChainLaws.{fault_at-step, fault_at-16, judge_step-falls, chain-eq, chain-place}
 
-pub fault_of-at : (kinds : List ℕ) (w : ℕ → ℕ) (pl : Place) (k : ℕ) (d : Descriptor) → d ≡ desc_at w k
+pub fault_of_at : (kinds : List ℕ) (w : ℕ → ℕ) (pl : Place) (k : ℕ) (d : Descriptor) → d ≡ desc_at w k
     → fault_of kinds pl d ≡ desc_fault kinds w pl k
 unfolding fault_of desc_fault desc_at
-fault_of-at kinds w pl k d e = rw e refl
+fault_of_at kinds w pl k d e = rw e refl
 
 -- ---- what a rule answers
 

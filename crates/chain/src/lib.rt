@@ -40,6 +40,7 @@ fn buffer_room(kinds: &[u8], side: Side, d: Descriptor) -> Room
 }
 
 // Rule 16: buffer not permitted.
+#[tactic(auto, unfolding(crate::specs::Chain::block_fault))]
 fn block_fault(kinds: &[u8], side: Side, d: Descriptor) -> Result<(), Refusal>
     requires { length_fault side d.buffer d.word2 d.word3 ≡ 0 }
     ensures { fault result ≡ block_fault kinds.now side d.buffer d.word2 d.word3 }
@@ -51,6 +52,7 @@ fn block_fault(kinds: &[u8], side: Side, d: Descriptor) -> Result<(), Refusal>
 }
 
 // Rules 14 to 17 of a descriptor: the lowest number.
+#[tactic(auto, unfolding(crate::specs::Hands::fault_of))]
 fn descriptor_fault(kinds: &[u8], pl: Place, d: Descriptor) -> Result<(), Refusal>
     ensures { fault result ≡ fault_of kinds.now pl d }
 {
@@ -66,15 +68,13 @@ fn descriptor_fault(kinds: &[u8], pl: Place, d: Descriptor) -> Result<(), Refusa
 fn judge(m: &Memory, kinds: &[u8], met: &mut Words, pl: Place, at: u32) -> Result<Descriptor, Refusal>
     ensures { judged pl at result (view met.new) ≡ judge_step kinds.now (word m.now) (pl, view met.old, at) }
 {
-    let Some(slot) = slot_at(at) else {
-        return Err(Refusal::BadPointer);
-    };
-    if !words::is_free(met, slot.word) {
+    let slot = slot_at(at).ok_or(Refusal::BadPointer)?;
+    if !words::is_free(met, slot) {
         return Err(Refusal::Overlap);
     }
     let d = descriptor_at(m, slot);
     descriptor_fault(kinds, pl, d)?;
-    words::add_four(met, slot.word);
+    words::add_four(met, slot);
     Ok(d)
 }
 
@@ -189,12 +189,11 @@ fn first_place(side: Side) -> Place
 }
 
 // As judge, but 13 is asked of the words in use alone, and nothing is met.
+#[tactic(auto, using(crate::proofs::HandLaws::fault_of_at), unfolding(crate::specs::Hands::fault_at))]
 fn fault_in_use(m: &Memory, kinds: &[u8], used: &Words, pl: Place, at: u32) -> Result<(), Refusal>
     ensures { fault result ≡ fault_at kinds.now (word m.now) pl used.now at }
 {
-    let Some(slot) = slot_at(at) else {
-        return Err(Refusal::BadPointer);
-    };
+    let slot = slot_at(at).ok_or(Refusal::BadPointer)?;
     if !words::four_free(used, slot.word) {
         return Err(Refusal::Overlap);
     }
@@ -202,13 +201,11 @@ fn fault_in_use(m: &Memory, kinds: &[u8], used: &Words, pl: Place, at: u32) -> R
 }
 
 // Whether the chain from at is one descriptor, as most are that a driver hands over.
+#[tactic(auto, unfolding(crate::specs::Hands::single))]
 pub fn is_single(m: &Memory, at: u32) -> bool
     ensures { result ≡ single (word m.now) at }
 {
-    match slot_at(at) {
-        Some(slot) => words::word_of(m, slot.word) == 0,
-        None => false,
-    }
+    slot_at(at).is_some_and(|slot| words::word_of(m, slot.word) == 0)
 }
 
 // What is said of such a chain. It meets no word twice, and no set of words met is made.
