@@ -1,3 +1,4 @@
 pub mod ChainLaws
 pub mod HandLaws
 pub mod VerdictLaws
+pub mod Settled

@@ -65,6 +65,8 @@ fn descriptor_fault(kinds: &[u8], pl: Place, d: Descriptor) -> Result<(), Refusa
 }
 
 // Rules 12 and 13, then the rest, of the descriptor that a pointer names. Without fault it is met.
+#[tactic(auto, using(crate::proofs::HandLaws::fault_of_at, crate::proofs::HandLaws::judged_refused, crate::proofs::HandLaws::judged_met),
+    unfolding(crate::specs::Hands::fault_at))]
 fn judge(m: &Memory, kinds: &[u8], met: &mut Words, pl: Place, at: u32) -> Result<Descriptor, Refusal>
     ensures { judged pl at result (view met.new) ≡ judge_step kinds.now (word m.now) (pl, view met.old, at) }
 {
@@ -90,6 +92,7 @@ fn refused(r: Refusal, at: u32) -> u64
 
 // The transmit chain from at, where a packet starts. The kinds come by a thin reference, so that all that the rules hand on is in registers.
 #[cycle(middle_rule_start_rule)]
+#[tactic(auto, using(crate::proofs::HandLaws::hand_refused, crate::proofs::HandLaws::hand_end, crate::proofs::HandLaws::hand_start, crate::proofs::HandLaws::hand_middle, crate::proofs::HandLaws::hand_less))]
 fn start_rule(m: &Memory, kinds: &&[u8], met: &mut Words, at: u32) -> u64
     ensures { unpacked result (view met.new) ≡ chain_of kinds.now.now (word m.now) Place.Start (view met.old) at }
 {
@@ -103,6 +106,7 @@ fn start_rule(m: &Memory, kinds: &&[u8], met: &mut Words, at: u32) -> u64
 
 // The transmit chain from at, in the middle of a packet: sop is word 3 of its first descriptor, sum the lengths so far.
 #[cycle(middle_rule_start_rule)]
+#[tactic(auto, using(crate::proofs::HandLaws::hand_refused, crate::proofs::HandLaws::hand_end, crate::proofs::HandLaws::hand_start, crate::proofs::HandLaws::hand_middle, crate::proofs::HandLaws::hand_less))]
 fn middle_rule(m: &Memory, kinds: &&[u8], met: &mut Words, at: u32, sop: u32, sum: u32) -> u64
     ensures { unpacked result (view met.new) ≡ chain_of kinds.now.now (word m.now) (Place.Middle sop sum) (view met.old) at }
 {
@@ -115,6 +119,7 @@ fn middle_rule(m: &Memory, kinds: &&[u8], met: &mut Words, at: u32, sop: u32, su
 }
 
 // The receive chain from at.
+#[tactic(auto, using(crate::proofs::HandLaws::hand_refused, crate::proofs::HandLaws::hand_end, crate::proofs::HandLaws::hand_buffer, crate::proofs::HandLaws::hand_less))]
 fn receive_rule(m: &Memory, kinds: &&[u8], met: &mut Words, at: u32) -> u64
     ensures { unpacked result (view met.new) ≡ chain_of kinds.now.now (word m.now) Place.Buffer (view met.old) at }
 {
@@ -152,6 +157,7 @@ fn numbered(n: u8) -> Result<(), Refusal>
 }
 
 // The answer with its place: with 16 the buffer there is asked once more, for the block.
+#[tactic(auto, using(crate::proofs::HandLaws::measured_words, crate::proofs::HandLaws::said_barred))]
 fn verdict_at(side: Side, m: &Memory, kinds: &[u8], found: Result<(), Refusal>, place: u32) -> Result<(), Fault>
     requires { fault found ≡ 16 → Measured (word m.now) side place }
     ensures { told result ≡ said kinds.now (word m.now) side (fault found, place, []) }
@@ -159,8 +165,8 @@ fn verdict_at(side: Side, m: &Memory, kinds: &[u8], found: Result<(), Refusal>, 
     let Err(refusal) = found else {
         return Ok(());
     };
-    let room = match slot_at(place) {
-        Some(slot) if refusal == Refusal::NotPermitted => buffer_room(kinds, side, descriptor_at(m, slot)),
+    let room = match (refusal, slot_at(place)) {
+        (Refusal::NotPermitted, Some(slot)) => buffer_room(kinds, side, descriptor_at(m, slot)),
         _ => Room::Free,
     };
     Err(Fault {
@@ -209,6 +215,7 @@ pub fn is_single(m: &Memory, at: u32) -> bool
 }
 
 // What is said of such a chain. It meets no word twice, and no set of words met is made.
+#[tactic(auto, using(crate::proofs::HandLaws::verdict_single))]
 pub fn check_single(side: Side, m: &Memory, kinds: &[u8], used: &Words, at: u32) -> Result<(), Fault>
     requires { single (word m.now) at ≡ true }
     ensures { told result ≡ (verdict_of side kinds.now (word m.now) used.now at).0 }
