@@ -1,7 +1,7 @@
 // The phases of the two engines: what each phase holds, and its step.
 // Promises: a step hands back exactly the next phase, HDP and CP, the burst made and the octets of a packet just done, and leaves exactly
 // the descriptor memory, that document 01, "The controller's steps", gives for the numbered items of Transmit and Receive.
-// A phase unfit for its step is told so, and the memory stays as it was.
+// A phase unfit for its step gives None, and the memory stays as it was.
 // Knows neither the controller's record nor queues by number: HDP and CP come in and go out as numbers, and of what is pending it hears
 // only whether a new packet is held back.
 
@@ -11,11 +11,12 @@ mod common; // common.rt: what both engines ask
 pub mod receive; // receive.rt: the receive engine, a method for each phase
 pub mod transmit; // transmit.rt: the transmit engine, likewise
 
-ghost use Rattle.std.specs.Prelude.{◌≡◌};
+ghost use Rattle.std.specs.Prelude.{◌≡◌, Some};
 ghost use Rattle.phases.specs.Engines.{engine_at};
+ghost use Rattle.phases.specs.Steps.{to_phase};
 
 // What one step moves over the bus: nothing, a read burst or a store burst, with its address and number of bytes.
-#[derive(Drop)]
+#[derive(Clone, Copy)]
 pub enum Burst {
     Quiet,
     Read(u32, u32),
@@ -32,7 +33,8 @@ pub enum Engine {
     TearReceive(u8),
 }
 
-// The engine of a number, on a channel.
+// The engine of a number, on a channel. The number comes from outside: any above 3 is the receive teardown.
+#[tactic(auto, unfolding(crate::specs::Engines::engine_at))]
 pub fn engine_at(which: u8, channel: u8) -> Engine
     ensures { result ≡ engine_at which channel }
 {
@@ -45,6 +47,7 @@ pub fn engine_at(which: u8, channel: u8) -> Engine
     }
 }
 
+// What each phase holds stands whole, though fields repeat: the definitions write it so, and the rig reads it as a row of words.
 // Transmit step 1 inside a packet: the SOP descriptor's address and word 3, and the lengths so far.
 #[derive(Clone, Copy)]
 pub struct Packet {
@@ -154,34 +157,28 @@ pub enum Receiving {
     Done(Leaving),
 }
 
-// One step of the transmit engine: the next phase, its registers, the burst, and the octets of a packet just sent.
-#[derive(Drop)]
-pub struct Sent {
-    pub state: Sending,
+// One step of an engine: the next phase, its registers, the burst, and the octets of a packet just done.
+// HDP and CP stay two numbers, here and in the steps: each step moves one or the other, and the definitions name both.
+#[derive(Clone, Copy)]
+pub struct Step<S> {
+    pub state: S,
     pub hdp: u32,
     pub cp: u32,
     pub burst: Burst,
     pub octets: u32,
 }
 
-#[derive(Drop)]
-pub enum Sends {
-    Went(Sent),
-    Unfit,
-}
-
-// One step of the receive engine, likewise.
-#[derive(Drop)]
-pub struct Took {
-    pub state: Receiving,
-    pub hdp: u32,
-    pub cp: u32,
-    pub burst: Burst,
-    pub octets: u32,
-}
-
-#[derive(Drop)]
-pub enum Takes {
-    Went(Took),
-    Unfit,
+impl<S> Step<S> {
+    // On to a phase, with HDP and CP and no burst.
+    fn quiet(state: S, hdp: u32, cp: u32) -> Step<S>
+        ensures { Some result ≡ to_phase state hdp cp }
+    {
+        Step {
+            state,
+            hdp,
+            cp,
+            burst: Burst::Quiet,
+            octets: 0,
+        }
+    }
 }
