@@ -47,12 +47,12 @@ replay_for (suc k) o s bs = replay_at o s bs (λ p t cs. replay_for k p t cs) (d
 abbrev pub replay_first : List ℕ → Decoded → List ℕ
 replay_first bs (Ok None) = bad_line 0
 replay_first bs (Err e) = bad_line 0
-replay_first bs (Ok (Some ((Ram n), size))) =
+replay_first bs (Ok (Some (Ram n, size))) =
     replay_for (suc (length bs)) size (fresh_machine (take n (drop 4 bs))) (drop size bs)
-replay_first bs (Ok (Some ((Write a v), size))) = bad_line 0
-replay_first bs (Ok (Some ((Kind b k), size))) = bad_line 0
-replay_first bs (Ok (Some ((Frame n), size))) = bad_line 0
-replay_first bs (Ok (Some ((Steps e c), size))) = bad_line 0
+replay_first bs (Ok (Some (Write a v, size))) = bad_line 0
+replay_first bs (Ok (Some (Kind b k, size))) = bad_line 0
+replay_first bs (Ok (Some (Frame n, size))) = bad_line 0
+replay_first bs (Ok (Some (Steps e c, size))) = bad_line 0
 
 unfoldable pub replay : List ℕ → List ℕ
 replay bs = replay_first bs (decode true bs)
