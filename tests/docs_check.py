@@ -57,10 +57,17 @@ def functions():
     for root in sorted(TOP.glob("crates/*/src/lib.rt")):
         text = root.read_text(encoding="utf-8")
         files = [(root, "")] + [(root.parent / (n + ".rt"), n + "::") for n in re.findall(r"^pub mod (\w+);", text, re.M)]
+        # a function of a closed module, which the root gives on by its name
+        given = {}
+        for module, names in re.findall(r"^pub use (\w+)::(\{[^}]*\}|\w+);", text, re.M):
+            given.setdefault(module, set()).update(re.findall(r"\w+", names))
+        files += [(root.parent / (n + ".rt"), "") for n in re.findall(r"^mod (\w+);", text, re.M) if n in given]
         for path, prefix in files:
             source = path.read_text(encoding="utf-8")
+            closed = given.get(path.stem) if prefix == "" and path != root else None
             for found in re.finditer(r"^pub (extern \"C\" )?fn (\w+).*?(?=^\{\n(.*?)^\})", source, re.M | re.S):
-                yield Function(root.parts[-3], prefix, found)
+                if closed is None or found.group(2) in closed:
+                    yield Function(root.parts[-3], prefix, found)
             for owner, block in re.findall(r"^impl (\w+) \{$(.*?)^\}$", source, re.M | re.S):
                 for found in re.finditer(r"^    pub ()fn (\w+).*?(?=^    \{\n(.*?)^    \})", block, re.M | re.S):
                     yield Function(root.parts[-3], owner + "::", found)
