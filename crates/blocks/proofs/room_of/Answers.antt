@@ -20,13 +20,17 @@ pub returns-then-not-is_permitted : goal.returns-then-not-is_permitted
 unfolding room_of
 returns-then-not-is_permitted c = simp (le-ltb _ _ c.if-lo-lt-RAM_FIRST.false)
     (walk-barred _ _ _ _ _ c.loop-b-test.true c.loop-b.invariant.1 c.in-Some.ensures.lookup.3.0
-    (ap (permits c.args.side) (sym (c.in-Some.ensures.lookup.4 (omega arith) 0)) ∙ sym c.is_permitted.ensures ∙ c.if-not-is_permitted.true))
+    (ap (permits c.args.side) (sym (c.in-Some.ensures.lookup.4 (omega arith) 0))
+    ∙ sym c.is_permitted.ensures
+    ∙ c.if-not-is_permitted.true))
 
 pub loop-b-preserved : goal.loop-b-preserved
 loop-b-preserved c = (
   c.loop-b.invariant.0,
   walk-next _ _ _ _ _ c.loop-b-test.true c.loop-b.invariant.1 c.in-Some.ensures.lookup.3.0
-      (ap (permits c.args.side) (sym (c.in-Some.ensures.lookup.4 (omega arith) 0)) ∙ sym c.is_permitted.ensures ∙ c.if-not-is_permitted.false),
+      (ap (permits c.args.side) (sym (c.in-Some.ensures.lookup.4 (omega arith) 0))
+      ∙ sym c.is_permitted.ensures
+      ∙ c.if-not-is_permitted.false),
 )
 
 pub returns : goal.returns

@@ -12,7 +12,9 @@ unfolding touches
 returns-then-lo-start c = let s = c.args in elim c.if-len-gt0.branch [
   | then-len-gt0 w ↦
       let l : nat_lt s.lo (ram_first + block_bytes * (s.b + 1)) ≡ true =
-      lt-ltb s.lo (ram_first + block_bytes * (s.b + 1)) (omega (arith, ltb-true _ _ (sym w.value-is ∙ c.if-lo-start.true), c.from.ensures, c.from-lo.ensures)) in
+      lt-ltb s.lo (ram_first + block_bytes * (s.b + 1)) (
+      let h = ltb-true _ _ (sym w.value-is ∙ c.if-lo-start.true) in
+      omega (arith, h, c.from.ensures, c.from-lo.ensures)) in
       simp (lt-ltb 0 s.len w.if-len-gt0.true, l, c.from.ensures, c.from-lo.ensures, c.from-then-lo-start.ensures)
   | else-len-gt0 w ↦ clash c.if-lo-start.true (w.value-is ∙ le-ltb 0 s.len w.if-len-gt0.false)
 ]
@@ -22,7 +24,9 @@ unfolding touches
 returns-else-lo-start c = let s = c.args in elim c.if-len-gt0.branch [
   | then-len-gt0 w ↦
       let l : nat_lt s.lo (ram_first + block_bytes * (s.b + 1)) ≡ false =
-      le-ltb s.lo (ram_first + block_bytes * (s.b + 1)) (omega (arith, ltb-false _ _ (sym w.value-is ∙ c.if-lo-start.false), c.from.ensures, c.from-lo.ensures)) in
+      le-ltb s.lo (ram_first + block_bytes * (s.b + 1)) (
+      let h = ltb-false _ _ (sym w.value-is ∙ c.if-lo-start.false) in
+      omega (arith, h, c.from.ensures, c.from-lo.ensures)) in
       simp (lt-ltb 0 s.len w.if-len-gt0.true, l, c.if-lo-start.false)
   | else-len-gt0 w ↦ simp (le-ltb 0 s.len w.if-len-gt0.false, c.if-lo-start.false)
 ]
