@@ -16,7 +16,7 @@ returns-then-received-lengths c = book-uneven _ _ _ _
     c.count_words-words.ensures
     c.count_lengths-lengths.ensures.0
     c.clear_all.ensures
-    c.transmit_heads-received.ensures
+    c.walk_heads-received.ensures
     c.if-received-lengths.true
 
 pub returns : goal.returns
@@ -27,6 +27,6 @@ returns c = book-rest _ _ _ _
     c.count_words-words.ensures
     c.count_lengths-lengths.ensures.0
     c.clear_all.ensures
-    c.transmit_heads-received.ensures
+    c.walk_heads-received.ensures
     c.if-received-lengths.false
-    c.receive_heads.ensures
+    c.walk_heads.ensures
