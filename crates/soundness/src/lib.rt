@@ -87,10 +87,7 @@ fn meet_at(
     let Some(d) = slot_at(p) else {
         return ControlFlow::Break(LOST);
     };
-    if left < 4 {
-        return ControlFlow::Break(LOST);
-    }
-    if !is_owed(side, used, lens, met, d) {
+    if left < 4 || !is_owed(side, used, lens, met, d) {
         return ControlFlow::Break(LOST);
     }
     words::take_four(met, d);
@@ -163,8 +160,5 @@ pub fn is_sound(m: &Memory, t: &State, used: &Words, lens: &Lengths, scratch: &m
     let lengths = count_lengths(lens);
     words::clear_all(scratch);
     let received = walk_heads(m, t, Side::Transmit, used, lens, scratch, words);
-    if received != 4 * lengths {
-        return false;
-    }
-    walk_heads(m, t, Side::Receive, used, lens, scratch, received) == 0
+    received == 4 * lengths && walk_heads(m, t, Side::Receive, used, lens, scratch, received) == 0
 }
