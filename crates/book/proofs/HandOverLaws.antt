@@ -1,14 +1,12 @@
 -- What the hand-over of a chain is, by cases, and that it ends. Assumes nothing.
---     hand_over_step-falls           each step leaves fewer free words
---     hand_over_step-bad, -met, -go  one step, as the calls tell it
+--     hand_over_step-falls     each step leaves fewer free words
 --     taken-eq                 the recursion equation: one step, and then the hand-over from where it goes
 --     taken-go                 a descriptor that is free is taken
---     taken-hop, hop-falls     recursion and measure, as a function tells them that handles one descriptor
+--     taken-on, -over, -falls  one step told: the hand-over goes on, with fewer free words, or it is over
 use Prim.Native.Nat.{ℕ, ◌+◌, ◌<◌}
 use mathlib.Core.Path.{◌≡◌, refl, ap, ◌∙◌, sym}
 use mathlib.Core.Bool.{Bool, true, false}
 use native.Mathlib.Omega.{arith}
-use Rattle.std.specs.Prelude.{Option, Some}
 use Rattle.layout.specs.Choice.{pick}
 use Rattle.layout.specs.Run.{Next, go, stop, after}
 use Rattle.layout.specs.Layout.{good_ptr, word_of}
@@ -17,7 +15,6 @@ use Rattle.layout.proofs.RunLaws.{run-eq}
 use Rattle.words.specs.WordSet.{free_at, free_count}
 use Rattle.words.proofs.SetLaws.{free_count-falls}
 use Rattle.book.specs.HandOver.{Uses, take_one, hand_over_step, taken_from}
-use Rattle.book.specs.Hops.{taken}
 
 -- ---- the measure
 
@@ -52,22 +49,6 @@ hand_over_step-falls w side s t e =
     e
 
 module _ (w : ℕ → ℕ) (side : Side) (u : Uses) (p : ℕ) where
-  -- ---- one step, as the calls tell it
-
-  pub hand_over_step-bad : good_ptr p ≡ false → stop u ≡ hand_over_step w side (u, p)
-  unfolding hand_over_step
-  hand_over_step-bad g = simp g
-
-  module _ {d : ℕ} (g : good_ptr p ≡ true) (at : d ≡ word_of p) where
-    pub hand_over_step-met : free_at u.0 d ≡ false → stop u ≡ hand_over_step w side (u, p)
-    unfolding hand_over_step
-    hand_over_step-met h = simp (g, ← at, h)
-
-    pub hand_over_step-go : {x2 next : ℕ} {v : Uses} → free_at u.0 d ≡ true → x2 ≡ w (d + 2) → v ≡ take_one side x2 u d → next ≡ w d
-        → go (v, next) ≡ hand_over_step w side (u, p)
-    unfolding hand_over_step
-    hand_over_step-go h q l n = simp (g, ← at, h, l, q, n)
-
   -- ---- the chain, by cases
 
   pub taken-eq : taken_from w side u p ≡ after (hand_over_step w side (u, p)) (λ t. taken_from w side t.0 t.1)

@@ -5,12 +5,12 @@
 --     Settling, settling-next, -last     the teardowns that are over, from queue q on
 use Prim.Native.Nat.{ℕ, zero, suc, ◌+◌, ◌*◌, ◌<◌, ◌≤◌}
 use mathlib.Core.Path.{◌≡◌, refl, ap, ◌∙◌, sym}
-use mathlib.Core.Bool.{Bool, true, false, ◌&&◌}
+use mathlib.Core.Bool.{Bool, true, ◌&&◌}
 use mathlib.Core.List.{List, [], ◌∷◌, ◌++◌, append-nil}
 use native.Mathlib.Omega.{arith}
 use native.Mathlib.Numerals.{add-one}
-use lib.ListN.{length, get_or, set, take, drop, length-take, take-append-drop, drop_of_length-le}
-use lib.Seq.{take_all, take-set-lt, drop-set-lt}
+use lib.ListN.{length, get_or, set, take, drop, length-take, drop_of_length-le}
+use lib.Seq.{take_all}
 use lib.Dec.{eqb}
 use Rattle.layout.specs.Choice.{pick, both}
 use Rattle.layout.specs.Bits.{clear_bit}

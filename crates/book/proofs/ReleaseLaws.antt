@@ -1,10 +1,9 @@
 -- What the release is, by cases, and that it ends. Assumes nothing.
 --     release_step-falls          each step leaves fewer words in use
---     release_step-bad, -free, -keep, -drop   one step, as the calls tell it
 --     released-eq                the recursion equation: one step, and then the release from where it goes
 --     released-bad, -free        a pointer that names no descriptor in use ends the queue
 --     released-keep, -drop       the plan for the descriptor at p: it stays with all behind it, or it goes and the release goes on
---     released-turn, turn-falls  recursion and measure, as a function tells them that handles one descriptor
+--     released-on, -over, -falls   one step told: the release goes on, with fewer words in use, or it is over
 --     released_flags-over, -else  the flags, where a reset is over, and where none is
 --     released_book-is            the queues in the mode that the flags give, and then the flags
 --     release-parts              a world of what the release of its book leaves is the released world
@@ -13,7 +12,7 @@ use mathlib.Core.Path.{◌≡◌, refl, ap, ◌∙◌, sym}
 use mathlib.Core.Bool.{Bool, true, false}
 use mathlib.Core.List.{List}
 use native.Mathlib.Omega.{arith}
-use Rattle.std.specs.Prelude.{Option, None, Some}
+use Rattle.std.specs.Prelude.{None, Some}
 use Rattle.layout.specs.Choice.{pick}
 use Rattle.layout.specs.Run.{Next, go, stop, after}
 use Rattle.layout.specs.Layout.{good_ptr, word_of}
@@ -27,7 +26,6 @@ use Rattle.book.specs.HandOver.{Uses, drop_one}
 use Rattle.book.specs.Release.{Plan, RSt, ROut, plan, planned, release_step, released_from, reset_over, settled, released_flags, release_mode}
 use Rattle.book.specs.Release.{released_heads, released_book}
 use Rattle.book.specs.World.{World, release}
-use Rattle.book.specs.Hops.{turned}
 
 -- ---- the measure
 
@@ -63,30 +61,6 @@ release_step-falls w s t e =
     t
     refl
     e
-
--- ---- one step, as the calls tell it
-
-module _ (w : ℕ → ℕ) (u : Uses) (p : ℕ) (mode : Mode) where
-  pub release_step-bad : good_ptr p ≡ false → stop (p, u) ≡ release_step w (u, p, mode)
-  unfolding release_step
-  release_step-bad g = simp g
-
-  module _ {d : ℕ} (g : good_ptr p ≡ true) (at : d ≡ word_of p) where
-    pub release_step-free : has u.0 d ≡ false → stop (p, u) ≡ release_step w (u, p, mode)
-    unfolding release_step
-    release_step-free h = simp (g, ← at, h)
-
-    module _ {x3 : ℕ} {fate : Plan} (h : has u.0 d ≡ true) (q : x3 ≡ w (d + 3)) (f : fate ≡ plan mode x3) where
-      release_step-plan : (x : Plan) → fate ≡ x → planned x u p (w d) ≡ release_step w (u, p, mode)
-      unfolding release_step
-      release_step-plan x e = simp (g, ← at, h, ← q, ← f, e)
-
-      pub release_step-keep : fate ≡ None → stop (p, u) ≡ release_step w (u, p, mode)
-      release_step-keep e = release_step-plan None e
-
-      pub release_step-drop : {rest : Mode} {v : Uses} {next : ℕ} → fate ≡ Some rest → v ≡ drop_one u d → next ≡ w d
-          → go (v, next, rest) ≡ release_step w (u, p, mode)
-      release_step-drop {rest} e l n = rw (l, n, at) (rw at at (release_step-plan (Some rest) e))
 
 -- ---- one queue, by cases
 

@@ -1,23 +1,19 @@
 -- What makes a book sound, by the walks that find it out, and that these end. Assumes nothing.
+--     good_not_zero                      a good pointer does not end a chain
 --     walk_step-falls, first_step-falls    each step leaves fewer free words
---     walk_step-bad, -met, -go, first_step-bad, -met, -go   one step, as the calls tell it
 --     walk-eq, firsts-eq                 the recursion equations: one step, and then the walk from where it goes
 --     walk_end, -bad, -met, -go          the chain walk by cases: at 0, at a pointer that is not good, at a word met before, else
 --     firsts-bad                         the same for the first words
---     walk-hop, -falls, firsts-hop, -falls   recursion and measure, as a function tells them that handles one descriptor
---     all_two                             a test at each entry of two lists
---     same_list-is, lengths_fit-is         both comparisons are such tests
---     all_two-length, -more, -whole       lists of different lengths fail; one entry more; all entries
+--     walk-on, -over, -falls, firsts-on, -over, -falls   one step told: the walk goes on, with fewer free words, or it is over
+--     same_list-is                        two lists are the same where the library's comparison says so
+--     fit_on, fit-next, lengths_fit-is      the lengths asked one after the other: one pair more, and all of them
 --     sound-flags, -walk, -words, -lengths   the four tests of soundness, in their order
-use Prim.Native.Nat.{ℕ, zero, suc, ◌+◌, ◌<◌, ◌≤◌}
+use Prim.Native.Nat.{ℕ, zero, suc, ◌<◌}
 use mathlib.Core.Path.{◌≡◌, refl, ap, ◌∙◌, sym}
 use mathlib.Core.Bool.{Bool, true, false}
 use mathlib.Core.List.{List, [], ◌∷◌, ◌++◌}
 use native.Mathlib.Omega.{arith}
-use native.Mathlib.Nat.{not-suc-le-zero, le_of_suc-le-suc}
-use native.Mathlib.Numerals.{add-one}
-use lib.ListN.{length, get_or, set, take}
-use lib.Seq.{take_all}
+use lib.ListN.{length, get_or, set}
 use lib.Dec.{eqb}
 use borrow.Author.Tests.{eq-eqb, ne_eqb, eqb-true}
 use Rattle.std.specs.Prelude.{◌&&◌, fold}
@@ -36,11 +32,10 @@ use Rattle.registers.specs.Table.{heads_of, flags_fit}
 use Rattle.book.specs.Sound.{WSt, WOut, walk_step, walk_from, walk_all, same_list, first_step, firsts_from, firsts_all, length_fits}
 use Rattle.book.specs.Sound.{lengths_fit, sound}
 use Rattle.book.specs.World.{sound_book}
-use Rattle.book.specs.Hops.{walked, noted}
 
 -- a good pointer is not 0
-good-not-zero : (p : ℕ) → good_ptr p ≡ true → eqb p 0 ≡ false
-good-not-zero p g = ne_eqb p 0 (λ e. omega (arith, good_ptr-bounds p g))
+pub good_not_zero : (p : ℕ) → good_ptr p ≡ true → eqb p 0 ≡ false
+good_not_zero p g = ne_eqb p 0 (λ e. omega (arith, good_ptr-bounds p g))
 
 -- ---- the chain walk
 
@@ -70,26 +65,7 @@ walk_step-falls w s t e =
     refl
     e
 
-walk_step-bad-at : (b : Bool) (met : List ℕ) (x : Next WSt WOut) (g : Bool) → g ≡ false
-    → stop (b, met) ≡ pick b (stop (true, met)) (pick g x (stop (false, met)))
-walk_step-bad-at true met x g e = refl
-walk_step-bad-at false met x g e = simp e
-
 module _ (w : ℕ → ℕ) (met : List ℕ) (p : ℕ) where
-  pub walk_step-bad : good_ptr p ≡ false → stop (eqb p 0, met) ≡ walk_step w (met, p)
-  unfolding walk_step
-  walk_step-bad g = walk_step-bad-at (eqb p 0) met _ (good_ptr p) g
-
-  module _ {d : ℕ} (g : good_ptr p ≡ true) (at : d ≡ word_of p) where
-    pub walk_step-met : free_at met d ≡ false → stop (eqb p 0, met) ≡ walk_step w (met, p)
-    unfolding walk_step
-    walk_step-met h = simp (good-not-zero p g, g, ← at, h)
-
-    pub walk_step-go : {v : List ℕ} {next : ℕ} → free_at met d ≡ true → v ≡ add_four met d → next ≡ w d
-        → go (v, next) ≡ walk_step w (met, p)
-    unfolding walk_step
-    walk_step-go h l n = simp (good-not-zero p g, g, ← at, h, l, n)
-
   pub walk-eq : walk_from w met p ≡ after (walk_step w (met, p)) (λ t. walk_from w t.0 t.1)
   unfolding walk_from
   walk-eq = run-eq (walk_step w) _ _ (walk_step-falls w) (met, p)
@@ -105,11 +81,11 @@ module _ (w : ℕ → ℕ) (met : List ℕ) (p : ℕ) where
   module _ (g : good_ptr p ≡ true) where
     pub walk-met : free_at met (word_of p) ≡ false → walk_from w met p ≡ (false, met)
     unfolding walk_step
-    walk-met h = walk-eq ∙ simp (good-not-zero p g, g, h)
+    walk-met h = walk-eq ∙ simp (good_not_zero p g, g, h)
 
     pub walk-go : free_at met (word_of p) ≡ true → walk_from w met p ≡ walk_from w (add_four met (word_of p)) (w (word_of p))
     unfolding walk_step
-    walk-go h = walk-eq ∙ simp (good-not-zero p g, g, h)
+    walk-go h = walk-eq ∙ simp (good_not_zero p g, g, h)
 
   -- one step told: the walk goes on, or it is over
   pub walk-on : {v : List ℕ} {next : ℕ} → go (v, next) ≡ walk_step w (met, p) → walk_from w v next ≡ walk_from w met p
@@ -156,19 +132,6 @@ first_step-falls w s t e =
     e
 
 module _ (w : ℕ → ℕ) (firsts : List ℕ) (p : ℕ) where
-  pub first_step-bad : good_ptr p ≡ false → stop firsts ≡ first_step w (firsts, p)
-  unfolding first_step
-  first_step-bad g = simp g
-
-  module _ {d : ℕ} (g : good_ptr p ≡ true) (at : d ≡ word_of p) where
-    pub first_step-met : eqb (get_or firsts d 1) 0 ≡ false → stop firsts ≡ first_step w (firsts, p)
-    unfolding first_step
-    first_step-met h = simp (g, ← at, h)
-
-    pub first_step-go : {next : ℕ} → eqb (get_or firsts d 1) 0 ≡ true → next ≡ w d → go (set firsts d 1, next) ≡ first_step w (firsts, p)
-    unfolding first_step
-    first_step-go h n = simp (g, ← at, h, n)
-
   pub firsts-eq : firsts_from w firsts p ≡ after (first_step w (firsts, p)) (λ t. firsts_from w t.0 t.1)
   unfolding firsts_from
   firsts-eq = run-eq (first_step w) _ _ (first_step-falls w) (firsts, p)

@@ -42,7 +42,7 @@ pub enum Mode {
 
 // The chain walk at p: its descriptor's words are met, and the next pointer is told. A pointer that names none, or one met before, ends
 // the walk.
-#[tactic(auto, unfolding(crate::specs::Sound::walk_step))]
+#[tactic(auto, using(crate::proofs::SoundLaws::good_not_zero), unfolding(crate::specs::Sound::walk_step))]
 fn meet_at(m: &Memory, met: &mut Words, p: u32) -> Option<u32>
     ensures { walked result p met.new ≡ walk_step (word m.now) (met.old, p) }
 {

@@ -1,5 +1,5 @@
 -- `book::is_sound` makes the four tests of soundness in their order. Assumes nothing.
-use Rattle.std.proofs.Common.{sym, ◌∙◌, refl}
+use Rattle.std.proofs.Common.{sym, ◌∙◌}
 use borrow.Author.Tests.{not-true, not-false}
 use Rattle.book.proofs.SoundLaws.{same_list-is, sound-flags, sound-walk, sound-words, sound-lengths}
 use Rattle.book.proofs.is_sound.Goals as goal

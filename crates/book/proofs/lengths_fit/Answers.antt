@@ -1,5 +1,5 @@
 -- `book::lengths_fit` asks each pair of entries. Assumes nothing.
-use Rattle.std.proofs.Common.{◌≡◌, true, ◌∙◌, refl, rules, arith}
+use Rattle.std.proofs.Common.{◌≡◌, true, ◌∙◌, refl, rules}
 use Rattle.std.proofs.lemmas.Iterator.{YieldsList-from_slice, YieldsList-from_zip, zips}
 use Rattle.std.proofs.lemmas.Fn.{fold_over, fronts}
 use Rattle.std.specs.Prelude.{fold}
