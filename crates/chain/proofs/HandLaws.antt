@@ -3,11 +3,12 @@
 --     judged_refused, judged_met     what the leaf hands on
 --     hand_refused, hand_end, hand_start, hand_middle, hand_buffer   what a rule answers is what follows the hand that it was given
 --     hand_less                     and that is over fewer words
---     follow_told                   the number and the place in what the rules answer; where the number is 16, the descriptor there has its
---                                   length in order
+--     leaves, hands                 these laws, for the check to try
+--     follow_number, follow_place, follow_measured   the number and the place in what the rules answer; where the number is 16, the
+--                                   descriptor there has its length in order
 --     measured_words, buffer_room_words, said_barred   the descriptor there, by its four words, and the answer
 --     verdict_told                  the answer from the rules' number
---     ends_good, single_16, verdict_single   the answer from the one descriptor of a chain
+--     single_16, verdict_single     the answer from the one descriptor of a chain
 use Prim.Native.Nat.{ℕ, ◌/◌, ◌%◌, ◌<◌, ◌^◌}
 use mathlib.Core.Path.{◌≡◌, refl, ap, ◌∙◌, sym}
 use mathlib.Core.Bool.{Bool, true, false}
@@ -18,7 +19,7 @@ use lib.Dec.{eqb}
 use borrow.Author.Tests.{eq-eqb, ne_eqb}
 use Rattle.std.specs.Prelude.{Result, Ok, Err}
 use Rattle.layout.specs.Choice.{pick}
-use Rattle.layout.proofs.ChoiceLaws.{both_left, both_right}
+use Rattle.layout.proofs.ChoiceLaws.{both_right}
 use Rattle.layout.specs.Refusals.{refusal_number}
 use Rattle.layout.specs.declared.refusals.Refusal.{Refusal}
 use Rattle.layout.specs.declared.refusals.Refusal.TheVariants.{Unfit, Unsound, Misaligned, NotGuarded, NotOffered, NotInitialised}
@@ -166,10 +167,6 @@ module _ (kinds m : List ℕ) (side : Side) (met : List ℕ) (p v : ℕ) (l : Li
   verdict_told n en r e = rw (← is, e, en) refl
 
 -- a chain of one descriptor: its fault is the chain's
-pub ends_good : (w : ℕ → ℕ) (p : ℕ) → single w p ≡ true → good_ptr p ≡ true
-unfolding single
-ends_good w p e = both_left (good_ptr p) (eqb (w (word_of p)) 0) e
-
 module _ (kinds : List ℕ) (w : ℕ → ℕ) (side : Side) (met : List ℕ) (p n : ℕ) (pl : Place) (at : pl ≡ place_of side)
     (is : n ≡ fault_at kinds w pl met p) where
   fault-is : n ≡ fault_at kinds w (place_of side) met p

@@ -5,6 +5,7 @@
 // Document 01, "Judging" and "Answers by number".
 // The start of a packet has one rule and its middle another, each handing on to the other. What they hand on is thin and what they
 // answer is a number, so that the call of a rule by a rule is compiled to a jump and no chain makes the stack grow.
+// Memory and kinds go side by side: a struct of both, made in this crate alone, would stand before either name in every clause.
 
 #![tactic(auto)]
 
