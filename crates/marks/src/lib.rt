@@ -56,7 +56,7 @@ fn mark_part<F: Fn(u32) -> u32>(part: &mut [u8], i: usize, mark: F)
     requires { (length part.old ≡ 16) × (i < 4) × F.IsAlwaysCallable mark }
     ensures { (w : ℕ) × F.post mark (word_at part.old (4 * i)) w × (part.new ≡ put_word part.old (4 * i) w) }
 {
-    let w = read_word(&part[..], 4 * i);
+    let w = read_word(part, 4 * i);
     write_word(part, 4 * i, mark(w));
 }
 
