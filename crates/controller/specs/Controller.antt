@@ -22,6 +22,7 @@ use Rattle.layout.specs.Layout.{desc_first, desc_bytes, length_max, good_ptr, wo
 use Rattle.layout.specs.Layout.{channel_of}
 use Rattle.layout.specs.Layout.{queue_of}
 use Rattle.layout.specs.Class.{class_at, hdp_class}
+use Rattle.layout.specs.Refusals.{fault}
 use Rattle.layout.specs.declared.Side.{Side}
 use Rattle.layout.specs.declared.Side.TheVariants as Sides
 use Rattle.words.specs.Word.{put}
@@ -112,7 +113,7 @@ pub record StepDone : Type 0 where
 
 -- what a step handed back, with the memory that it left
 abbrev pub outcome : Stepped → List ℕ → StepDone
-outcome r m = record { ctl = r.ctl; mem = m; burst = r.burst; number = r.number }
+outcome r m = record { ctl = r.ctl; mem = m; burst = r.burst; number = fault r.answer }
 
 -- an answer, and nothing else. "A step that cannot move changes nothing": it answers 0
 abbrev pub answer : ℕ → Controller → List ℕ → StepDone
@@ -247,7 +248,7 @@ framed n c = record { ctl = c; number = n }
 
 -- the same, of what was handed back
 abbrev pub arrival : Arrived → Framed
-arrival r = framed r.number r.ctl
+arrival r = framed (fault r.answer) r.ctl
 
 unfoldable pub frame_of : ℕ → Controller → Framed
 frame_of n c =
