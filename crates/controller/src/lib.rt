@@ -56,7 +56,7 @@ pub struct Arrived {
 pub fn step_by(c: Controller, m: &mut [u8], e: Engine) -> Stepped
     ensures { outcome result m.new ≡ step_of e c m.old }
 {
-    let Some(m) = m.as_mut_array() else {
+    let Some(m) = m.as_mut_array::<DESC_BYTES>() else {
         return give(c, Err(Refusal::Unfit));
     };
     if c.undefined {

@@ -9,7 +9,7 @@ ghost use Rattle.controller.specs.Controller.{answer, framed, frame_of, set_begu
 use crate::Controller;
 use crate::record::queue_of;
 use layout::{
-    DESC_FIRST, HDP, LENGTH_MAX, QUEUES, Refusal, Side, class_at, is_descriptor,
+    DESC_BYTES, DESC_FIRST, HDP, LENGTH_MAX, QUEUES, Refusal, Side, class_at, is_descriptor,
 };
 use phases::receive::is_waiting;
 use phases::{Frame, Receiving};
@@ -48,7 +48,7 @@ impl Controller {
     pub fn write(&mut self, m: &mut [u8], a: u32, v: u32) -> Result<(), Refusal>
         ensures { answer (fault result) self.new m.new ≡ unguarded_write a v self.old m.old }
     {
-        let Some(m) = m.as_mut_array() else {
+        let Some(m) = m.as_mut_array::<DESC_BYTES>() else {
             return Err(Refusal::Unfit);
         };
         if self.undefined {
@@ -68,18 +68,17 @@ impl Controller {
     fn write_class(&mut self, n: u8, v: u32) -> Result<(), Refusal>
         ensures { (m : List ℕ) → answer (fault result) self.new m ≡ register_write n v self.old m }
     {
-        match register_fault(&self.state, n, v) {
-            Ok(()) => {
-                self.begin_engine(n);
-                write_register(&mut self.state, n, v);
-                Ok(())
-            }
-            Err(Refusal::NotGuarded) => Err(Refusal::NotGuarded),
-            Err(_) => {
-                self.undefined = true;
-                Err(Refusal::Undefined)
-            }
+        let fault = register_fault(&self.state, n, v);
+        if fault == 4 {
+            return Err(Refusal::NotGuarded);
         }
+        if fault != 0 {
+            self.undefined = true;
+            return Err(Refusal::Undefined);
+        }
+        self.begin_engine(n);
+        write_register(&mut self.state, n, v);
+        Ok(())
     }
 
     // The engine before a write that its register takes: an HDP write starts it, unless it only zeroes.
