@@ -2,17 +2,14 @@
 --     put_length n w              a word with n as its bits 10..0
 --     eoq_mark, owner_mark, td_mark transmit steps 4 and 5, and teardown step 1, on word 3
 --     last_mark, first_mark        receive steps 4 and 5, on word 3
---     changed k w, Fits k        a word with the mark k, and the bound of the length that such a mark carries
 --     marked f d m               descriptor memory m with word 3 of the descriptor at word d changed by f
 --     last_marked                 receive step 4 on both words that it writes
 -- "other bits stay in 4 and 5". Laws: proofs/LengthLaws.antt, FlagLaws.antt, MarkLaws.antt. Assumes nothing: these are definitions.
-use Rattle.std.specs.Prelude.{ℕ, ◌+◌, ◌-◌, ◌%◌, ◌<◌, Bool, List, eqb}
+use Rattle.std.specs.Prelude.{ℕ, ◌+◌, ◌-◌, ◌%◌, Bool, List, eqb}
 use Rattle.layout.specs.Choice.{pick}
 use Rattle.layout.specs.Bits.{set_bit, clear_bit}
 use Rattle.words.specs.Word.{word, put}
 use Rattle.descriptor.specs.Fields.{short_end}
-use Rattle.marks.specs.declared.Mark.{Mark}
-use Rattle.marks.specs.declared.Mark.TheVariants.{Eoq, Owner, Td, Length, Last, First}
 
 unfoldable pub put_length : ℕ → ℕ → ℕ
 put_length n w = w - w % short_end + n
@@ -37,23 +34,6 @@ last_mark latched x3 = pick (eqb latched 0) (set_bit 28 (set_bit 30 x3)) (set_bi
 abbrev pub first_mark : ℕ → Bool → ℕ → ℕ
 first_mark stored overrun x3 =
     clear_bit 29 (pick overrun (set_bit 22 (set_bit 31 (put_length stored x3))) (clear_bit 22 (set_bit 31 (put_length stored x3))))
-
--- "Marking a descriptor is handed only its own sixteen bytes": one leaf for all of them, told which
-unfoldable pub changed : Mark → ℕ → ℕ
-changed Eoq w = eoq_mark w
-changed Owner w = owner_mark w
-changed Td w = td_mark w
-changed (Length n) w = put_length n w
-changed (Last latched) w = last_mark latched w
-changed (First stored overrun) w = first_mark stored overrun w
-
-abbrev pub Fits : Mark → Type 0
-Fits Eoq = Unit
-Fits Owner = Unit
-Fits Td = Unit
-Fits (Length n) = n < short_end
-Fits (Last latched) = Unit
-Fits (First stored overrun) = stored < short_end
 
 unfoldable pub marked : (ℕ → ℕ) → ℕ → List ℕ → List ℕ
 marked f d m = put m (d + 3) (f (word m (d + 3)))

@@ -7,8 +7,8 @@ use mathlib.Core.Bool.{Bool}
 use mathlib.Core.List.{List}
 use Rattle.phases.specs.declared.Sending.{Sending}
 use Rattle.phases.specs.declared.Receiving.{Receiving}
-use Rattle.phases.specs.declared.Sends.{Sends}
-use Rattle.phases.specs.declared.Takes.{Takes}
+use Rattle.std.proofs.Common.{Option}
+use Rattle.phases.specs.declared.Step.{Step}
 use Rattle.phases.specs.Transmit.{send_step}
 use Rattle.phases.specs.Receive.{take_step}
 use Rattle.phases.specs.Quiet.{quiet_tx, quiet_rx, waits}
@@ -18,11 +18,11 @@ both-same {A} {B} o r s x y p q =
     let e = p ∙ sym q in
     (ap (λ (z : A × B). z.0) e, ap (λ (z : A × B). z.1) e)
 
-pub step-transmit-unique : (held : Bool) (m : List ℕ) (p : Sending) (hdp cp : ℕ) (r s : Sends) (x y : List ℕ)
+pub step-transmit-unique : (held : Bool) (m : List ℕ) (p : Sending) (hdp cp : ℕ) (r s : Option (Step Sending)) (x y : List ℕ)
     → (r, x) ≡ send_step held m p hdp cp → (s, y) ≡ send_step held m p hdp cp → (r ≡ s) × (x ≡ y)
 step-transmit-unique held m p hdp cp r s x y e f = both-same (send_step held m p hdp cp) r s x y e f
 
-pub step-receive-unique : (m : List ℕ) (p : Receiving) (hdp cp : ℕ) (r s : Takes) (x y : List ℕ)
+pub step-receive-unique : (m : List ℕ) (p : Receiving) (hdp cp : ℕ) (r s : Option (Step Receiving)) (x y : List ℕ)
     → (r, x) ≡ take_step m p hdp cp → (s, y) ≡ take_step m p hdp cp → (r ≡ s) × (x ≡ y)
 step-receive-unique m p hdp cp r s x y e f = both-same (take_step m p hdp cp) r s x y e f
 

@@ -1,3 +1,4 @@
+pub mod Steps
 pub mod Transmit
 pub mod Receive
 pub mod Quiet

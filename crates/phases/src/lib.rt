@@ -11,8 +11,9 @@ mod common; // common.rt: what both engines ask
 pub mod receive; // receive.rt: the receive engine, a method for each phase
 pub mod transmit; // transmit.rt: the transmit engine, likewise
 
-ghost use Rattle.std.specs.Prelude.{◌≡◌};
+ghost use Rattle.std.specs.Prelude.{◌≡◌, Some};
 ghost use Rattle.phases.specs.Engines.{engine_at};
+ghost use Rattle.phases.specs.Steps.{to_phase};
 
 // What one step moves over the bus: nothing, a read burst or a store burst, with its address and number of bytes.
 #[derive(Drop)]
@@ -33,6 +34,7 @@ pub enum Engine {
 }
 
 // The engine of a number, on a channel.
+#[tactic(auto, unfolding(crate::specs::Engines::engine_at))]
 pub fn engine_at(which: u8, channel: u8) -> Engine
     ensures { result ≡ engine_at which channel }
 {
@@ -154,34 +156,27 @@ pub enum Receiving {
     Done(Leaving),
 }
 
-// One step of the transmit engine: the next phase, its registers, the burst, and the octets of a packet just sent.
+// One step of an engine: the next phase, its registers, the burst, and the octets of a packet just done.
 #[derive(Drop)]
-pub struct Sent {
-    pub state: Sending,
+pub struct Step<S> {
+    pub state: S,
     pub hdp: u32,
     pub cp: u32,
     pub burst: Burst,
     pub octets: u32,
 }
 
-#[derive(Drop)]
-pub enum Sends {
-    Went(Sent),
-    Unfit,
-}
-
-// One step of the receive engine, likewise.
-#[derive(Drop)]
-pub struct Took {
-    pub state: Receiving,
-    pub hdp: u32,
-    pub cp: u32,
-    pub burst: Burst,
-    pub octets: u32,
-}
-
-#[derive(Drop)]
-pub enum Takes {
-    Went(Took),
-    Unfit,
+impl<S> Step<S> {
+    // On to a phase, with HDP and CP and no burst.
+    fn quiet(state: S, hdp: u32, cp: u32) -> Step<S>
+        ensures { Some result ≡ to_phase state hdp cp }
+    {
+        Step {
+            state,
+            hdp,
+            cp,
+            burst: Burst::Quiet,
+            octets: 0,
+        }
+    }
 }

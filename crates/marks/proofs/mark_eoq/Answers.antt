@@ -1,7 +1,0 @@
--- `marks::mark_eoq` marks word 3. Assumes nothing.
-use Rattle.marks.specs.Marks.{changed, marked}
-use Rattle.marks.proofs.mark_eoq.Goals as goal
-
-pub returns : goal.returns
-unfolding marked changed
-returns c = c.mark_at.ensures
