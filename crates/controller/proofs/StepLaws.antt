@@ -14,8 +14,8 @@ use borrow.Author.Tests.{ne_eqb, lt-ltb, le-ltb}
 use Rattle.layout.specs.Choice.{pick, both}
 use Rattle.layout.specs.Layout.{channels, queue_of}
 use Rattle.layout.specs.declared.Side.TheVariants as Sides
-use Rattle.phases.specs.declared.Sends.{Sends}
-use Rattle.phases.specs.declared.Takes.{Takes}
+use Rattle.phases.specs.declared.Step.{Step}
+use Rattle.std.proofs.Common.{Option}
 use Rattle.phases.specs.declared.Sending.{Sending}
 use Rattle.phases.specs.declared.Receiving.{Receiving}
 use Rattle.phases.specs.Transmit as T
@@ -55,20 +55,20 @@ take_at m s y z = cc
 
 -- a step depends on the values alone: what it gave on those of the record is the channel's step
 module _ (ch : ℕ) (c : Controller) (m x : List ℕ) {q p k : ℕ} (there : ch < channels) where
-  pub sent : {held : Bool} {r : Sends} → q ≡ queue_of Sides.Transmit ch → held ≡ held_back c q → p ≡ hdp_of c.state q → k ≡ cp_of c.state q
+  pub sent : {held : Bool} {r : Option (Step Sending)} → q ≡ queue_of Sides.Transmit ch → held ≡ held_back c q → p ≡ hdp_of c.state q → k ≡ cp_of c.state q
       → (r, x) ≡ T.send_step held m (tx_of c ch) p k → send_moved ch (r, x) c m ≡ on_channel ch c m (transmit_step ch c m)
   unfolding transmit_step
   sent e w f g s =
       let at = send_at m (tx_of c ch) (w ∙ ap (λ (n : ℕ). held_back c n) e) (f ∙ ap (λ (n : ℕ). hdp_of c.state n) e)
           (g ∙ ap (λ (n : ℕ). cp_of c.state n) e) in
-      ap (λ (y : Sends × List ℕ). send_moved ch y c m) (s ∙ at) ∙ sym (on-channel c m (transmit_step ch c m) there)
+      ap (λ (y : Option (Step Sending) × List ℕ). send_moved ch y c m) (s ∙ at) ∙ sym (on-channel c m (transmit_step ch c m) there)
 
-  pub taken : {r : Takes} → q ≡ queue_of Sides.Receive ch → p ≡ hdp_of c.state q → k ≡ cp_of c.state q
+  pub taken : {r : Option (Step Receiving)} → q ≡ queue_of Sides.Receive ch → p ≡ hdp_of c.state q → k ≡ cp_of c.state q
       → (r, x) ≡ U.take_step m (rx_of c ch) p k → take_moved ch (r, x) c m ≡ on_channel ch c m (receive_step ch c m)
   unfolding receive_step
   taken e f g s =
       let at = take_at m (rx_of c ch) (f ∙ ap (λ (n : ℕ). hdp_of c.state n) e) (g ∙ ap (λ (n : ℕ). cp_of c.state n) e) in
-      ap (λ (y : Takes × List ℕ). take_moved ch y c m) (s ∙ at) ∙ sym (on-channel c m (receive_step ch c m) there)
+      ap (λ (y : Option (Step Receiving) × List ℕ). take_moved ch y c m) (s ∙ at) ∙ sym (on-channel c m (receive_step ch c m) there)
 
 -- ---- the teardown's steps by stage
 

@@ -12,7 +12,7 @@ mod writes; // writes.rt: frames, and writes that no guard has judged
 ghost use Rattle.std.specs.Prelude.{◌≡◌};
 ghost use Rattle.controller.specs.Controller.{outcome, step_of, arrival, frame_of, unguarded_write, fresh_controller};
 
-use layout::{CHANNELS, DESC_BYTES, QUEUES, Refusal, Side};
+use layout::{CHANNELS, QUEUES, Refusal, Side};
 use phases::{Burst, Engine, Receiving, Sending};
 use record::{give, idle_channels};
 use registers::{STATE, State};
@@ -56,7 +56,7 @@ pub struct Arrived {
 pub fn step_by(c: Controller, m: &mut [u8], e: Engine) -> Stepped
     ensures { outcome result m.new ≡ step_of e c m.old }
 {
-    let Some(m) = m.as_mut_array::<DESC_BYTES>() else {
+    let Some(m) = m.as_mut_array() else {
         return give(c, Err(Refusal::Unfit));
     };
     if c.undefined {

@@ -12,7 +12,6 @@ use layout::{CHANNELS, Memory, Side, TEARDOWN_DONE, clear_bit, slot_at};
 use marks::mark_td;
 use phases::receive::step_receive;
 use phases::transmit::step_transmit;
-use phases::{Sends, Takes};
 use registers::{BIT_AT, CP_AT, HDP_AT, MARKS_AT, RESET_AT, TEARING_AT, is_resetting, is_tearing};
 
 // One step of a channel's transmit engine. The two engines' steps stay apart: held back or not, phase and total are each its own.
@@ -23,7 +22,7 @@ pub fn transmit_step(mut c: Controller, m: &mut Memory, ch: usize) -> Stepped
         return give(c, Ok(()));
     }
     let q = queue_of(Side::Transmit, ch);
-    let Sends::Went(s) = step_transmit(m, c.channels[ch].tx, c.hdp(q), c.cp(q), c.is_held(q)) else {
+    let Some(s) = step_transmit(m, c.channels[ch].tx, c.hdp(q), c.cp(q), c.is_held(q)) else {
         return give_undefined(c);
     };
     c.channels[ch].tx = s.state;
@@ -44,7 +43,7 @@ pub fn receive_step(mut c: Controller, m: &mut Memory, ch: usize) -> Stepped
         return give(c, Ok(()));
     }
     let q = queue_of(Side::Receive, ch);
-    let Takes::Went(s) = step_receive(m, c.channels[ch].rx, c.hdp(q), c.cp(q)) else {
+    let Some(s) = step_receive(m, c.channels[ch].rx, c.hdp(q), c.cp(q)) else {
         return give_undefined(c);
     };
     c.channels[ch].rx = s.state;
@@ -67,7 +66,7 @@ fn tear_mark(mut c: Controller, m: &mut Memory, q: usize) -> Stepped
         let Some(d) = slot_at(p) else {
             return give_undefined(c);
         };
-        mark_td(m, d.word);
+        mark_td(m, d);
     }
     c.stages[q] = 2;
     give(c, Ok(()))

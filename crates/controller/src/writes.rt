@@ -9,15 +9,12 @@ ghost use Rattle.controller.specs.Controller.{answer, framed, frame_of, set_begu
 use crate::Controller;
 use crate::record::queue_of;
 use layout::{
-    DESC_BYTES, DESC_FIRST, HDP, LENGTH_MAX, QUEUES, Refusal, Side, class_at, is_descriptor,
+    DESC_FIRST, HDP, LENGTH_MAX, Refusal, Side, class_at, is_descriptor,
 };
 use phases::receive::is_waiting;
 use phases::{Frame, Receiving};
-use registers::{is_awaiting, register_fault, write_register};
+use registers::{HDP_LAST, is_awaiting, register_fault, write_register};
 use words::put_at;
-
-// One past the last class of an HDP.
-const HDP_END: u8 = HDP + QUEUES as u8;
 
 impl Controller {
     // A frame of n bytes comes, on channel 0.
@@ -48,7 +45,7 @@ impl Controller {
     pub fn write(&mut self, m: &mut [u8], a: u32, v: u32) -> Result<(), Refusal>
         ensures { answer (fault result) self.new m.new ≡ unguarded_write a v self.old m.old }
     {
-        let Some(m) = m.as_mut_array::<DESC_BYTES>() else {
+        let Some(m) = m.as_mut_array() else {
             return Err(Refusal::Unfit);
         };
         if self.undefined {
@@ -68,24 +65,25 @@ impl Controller {
     fn write_class(&mut self, n: u8, v: u32) -> Result<(), Refusal>
         ensures { (m : List ℕ) → answer (fault result) self.new m ≡ register_write n v self.old m }
     {
-        let fault = register_fault(&self.state, n, v);
-        if fault == 4 {
-            return Err(Refusal::NotGuarded);
+        match register_fault(&self.state, n, v) {
+            Ok(()) => {
+                self.begin_engine(n);
+                write_register(&mut self.state, n, v);
+                Ok(())
+            }
+            Err(Refusal::NotGuarded) => Err(Refusal::NotGuarded),
+            Err(_) => {
+                self.undefined = true;
+                Err(Refusal::Undefined)
+            }
         }
-        if fault != 0 {
-            self.undefined = true;
-            return Err(Refusal::Undefined);
-        }
-        self.begin_engine(n);
-        write_register(&mut self.state, n, v);
-        Ok(())
     }
 
     // The engine before a write that its register takes: an HDP write starts it, unless it only zeroes.
     fn begin_engine(&mut self, n: u8)
         ensures { self.new ≡ pick (starts_engine self.old n) (set_begun (n - hdp_class) self.old) self.old }
     {
-        if n < HDP_END && !is_awaiting(&self.state) {
+        if n <= HDP_LAST && !is_awaiting(&self.state) {
             self.begin((n - HDP) as usize);
         }
     }

@@ -24,6 +24,6 @@ pub returns : goal.returns
 returns c =
     let a = c.args in
     let x = c.step_transmit.new.m in
-    ap {B = StepDone} (λ (d : Controller). record { ctl = d; mem = x; burst = c.in-Went.s.burst; number = 0 })
+    ap {B = StepDone} (λ (d : Controller). record { ctl = d; mem = x; burst = c.in-Some.s.burst; number = 0 })
     (simp (c.queue_of-q.ensures.0, c.saturating_add.ensures, c.from.ensures) at c.set_registers.ensures)
-    ∙ sent a.ch a.c a.m.now x c.if-ch-ge-CHANNELS.false c.queue_of-q.ensures.0 c.is_held.ensures c.hdp.ensures c.cp.ensures c.in-Went.ensures
+    ∙ sent a.ch a.c a.m.now x c.if-ch-ge-CHANNELS.false c.queue_of-q.ensures.0 c.is_held.ensures c.hdp.ensures c.cp.ensures c.in-Some.ensures
