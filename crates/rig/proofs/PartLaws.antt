@@ -20,7 +20,8 @@ use Rattle.controller.specs.declared.Arrived.{Arrived}
 use Rattle.controller.specs.Controller.{StepDone, Framed, outcome, arrival, step_of, frame_of, unguarded_write, idle_channel}
 use Rattle.rig.specs.Record.{Parts, sending_in, receiving_in, channels_to, channels_in, sending_words, receiving_words, burst_words, tx_to}
 use Rattle.rig.specs.Record.{rx_to, controller_in, saved_in}
-use Rattle.rig.specs.Lent.{engine_at, lent, lent_by, came, came_by}
+use Rattle.phases.specs.Engines.{engine_at}
+use Rattle.rig.specs.Lent.{lent, lent_by, came, came_by}
 
 abbrev both-phases : Sending → Receiving → Channel
 both-phases x y = record { tx = x; rx = y }
