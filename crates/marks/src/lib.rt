@@ -9,7 +9,7 @@ ghost use Rattle.words.specs.Word.{word_at, put_word, word, put};
 ghost use Rattle.descriptor.specs.Fields.{short_end};
 ghost use Rattle.marks.specs.Marks.{put_length, eoq_mark, owner_mark, td_mark, last_mark, first_mark, marked, last_marked};
 
-use descriptor::{EOP, EOQ, OWNER, SHORT_END, SOP, TD};
+use descriptor::{Flag, SHORT_END};
 use layout::{Memory, Slot, clear_bit, set_bit};
 use words::{read_word, write_word};
 
@@ -29,9 +29,9 @@ fn put_length(n: u32, w: u32) -> u32
 fn last_mark(latched: u32, x3: u32) -> u32
     ensures { result ≡ last_mark latched x3 }
 {
-    let ended = set_bit(x3, EOP);
+    let ended = set_bit(x3, Flag::Eop as u32);
     if latched == 0 {
-        set_bit(ended, EOQ)
+        set_bit(ended, Flag::Eoq as u32)
     } else {
         ended
     }
@@ -42,16 +42,16 @@ fn first_mark(stored: u32, overrun: bool, x3: u32) -> u32
     requires { stored < short_end }
     ensures { result ≡ first_mark stored overrun x3 }
 {
-    let begun = set_bit(put_length(stored, x3), SOP);
+    let begun = set_bit(put_length(stored, x3), Flag::Sop as u32);
     let noted = if overrun {
         set_bit(begun, OVERRUN)
     } else {
         clear_bit(begun, OVERRUN)
     };
-    clear_bit(noted, OWNER)
+    clear_bit(noted, Flag::Owner as u32)
 }
 
-// Marks word i of the descriptor whose sixteen bytes these are.
+// Marks word i of the descriptor whose sixteen bytes these are; a part that is lent on is a slice.
 fn mark_part<F: Fn(u32) -> u32>(part: &mut [u8], i: usize, mark: F)
     requires { (length part.old ≡ 16) × (i < 4) × F.IsAlwaysCallable mark }
     ensures { (w : ℕ) × F.post mark (word_at part.old (4 * i)) w × (part.new ≡ put_word part.old (4 * i) w) }
@@ -74,7 +74,7 @@ fn mark_at<F: Fn(u32) -> u32>(m: &mut Memory, d: Slot, i: usize, mark: F)
 pub fn mark_eoq(m: &mut Memory, d: Slot)
     ensures { m.new ≡ marked eoq_mark d.word m.old }
 {
-    mark_at(m, d, 3, |w| set_bit(w, EOQ));
+    mark_at(m, d, 3, |w| set_bit(w, Flag::Eoq as u32));
 }
 
 // Transmit step 5: clears OWNER.
@@ -82,7 +82,7 @@ pub fn mark_eoq(m: &mut Memory, d: Slot)
 pub fn mark_owner(m: &mut Memory, d: Slot)
     ensures { m.new ≡ marked owner_mark d.word m.old }
 {
-    mark_at(m, d, 3, |w| clear_bit(w, OWNER));
+    mark_at(m, d, 3, |w| clear_bit(w, Flag::Owner as u32));
 }
 
 // Teardown step 1: sets TD.
@@ -90,7 +90,7 @@ pub fn mark_owner(m: &mut Memory, d: Slot)
 pub fn mark_td(m: &mut Memory, d: Slot)
     ensures { m.new ≡ marked td_mark d.word m.old }
 {
-    mark_at(m, d, 3, |w| set_bit(w, TD));
+    mark_at(m, d, 3, |w| set_bit(w, Flag::Td as u32));
 }
 
 // Receive step 5: the frame's first descriptor.

@@ -1,7 +1,7 @@
 // The phases of the two engines: what each phase holds, and its step.
 // Promises: a step hands back exactly the next phase, HDP and CP, the burst made and the octets of a packet just done, and leaves exactly
 // the descriptor memory, that document 01, "The controller's steps", gives for the numbered items of Transmit and Receive.
-// A phase unfit for its step is told so, and the memory stays as it was.
+// A phase unfit for its step gives None, and the memory stays as it was.
 // Knows neither the controller's record nor queues by number: HDP and CP come in and go out as numbers, and of what is pending it hears
 // only whether a new packet is held back.
 
@@ -16,7 +16,7 @@ ghost use Rattle.phases.specs.Engines.{engine_at};
 ghost use Rattle.phases.specs.Steps.{to_phase};
 
 // What one step moves over the bus: nothing, a read burst or a store burst, with its address and number of bytes.
-#[derive(Drop)]
+#[derive(Clone, Copy)]
 pub enum Burst {
     Quiet,
     Read(u32, u32),
@@ -33,7 +33,7 @@ pub enum Engine {
     TearReceive(u8),
 }
 
-// The engine of a number, on a channel.
+// The engine of a number, on a channel. The number comes from outside: any above 3 is the receive teardown.
 #[tactic(auto, unfolding(crate::specs::Engines::engine_at))]
 pub fn engine_at(which: u8, channel: u8) -> Engine
     ensures { result ≡ engine_at which channel }
@@ -47,6 +47,7 @@ pub fn engine_at(which: u8, channel: u8) -> Engine
     }
 }
 
+// What each phase holds stands whole, though fields repeat: the definitions write it so, and the rig reads it as a row of words.
 // Transmit step 1 inside a packet: the SOP descriptor's address and word 3, and the lengths so far.
 #[derive(Clone, Copy)]
 pub struct Packet {
@@ -157,7 +158,8 @@ pub enum Receiving {
 }
 
 // One step of an engine: the next phase, its registers, the burst, and the octets of a packet just done.
-#[derive(Drop)]
+// HDP and CP stay two numbers, here and in the steps: each step moves one or the other, and the definitions name both.
+#[derive(Clone, Copy)]
 pub struct Step<S> {
     pub state: S,
     pub hdp: u32,

@@ -1,7 +1,7 @@
 // The receive engine: a method for each phase, which hands back the next phase with the burst made, and the step of any phase.
 // Document 01, "The controller's steps", Receive 1 to 6.
 
-ghost use Rattle.std.specs.Prelude.{◌≡◌, ◌+◌, ◌≤◌, length};
+ghost use Rattle.std.specs.Prelude.{◌≡◌, ◌+◌, ◌≤◌};
 ghost use Rattle.layout.specs.Layout.{address_end, length_max};
 ghost use Rattle.words.specs.Word.{word};
 ghost use Rattle.phases.specs.Steps.{to_phase};
@@ -10,7 +10,7 @@ ghost use Rattle.phases.specs.Quiet.{quiet_rx, waits};
 
 use crate::common::{BURST_MAX, passes_end};
 use crate::{Burst, Filled, Frame, Leaving, Receiving, Step, Stored, Storing};
-use descriptor::{Place, descriptor_at, fetch_fault, length_of};
+use descriptor::{Place, descriptor_at, length_of};
 use layout::{LENGTH_MAX, Memory, Side, slot_at};
 use marks::{mark_first, mark_last};
 use words::word_of;
@@ -41,10 +41,8 @@ impl Frame {
         if is_too_long(self.stored, self.left) {
             return None;
         }
-        let d = descriptor_at(m, slot_at(hdp)?.word);
-        if fetch_fault(Place::Buffer, d.next, d.buffer, d.word2, d.word3) != 0 {
-            return None;
-        }
+        let d = descriptor_at(m, slot_at(hdp)?);
+        d.fetch_fault(Place::Buffer).ok()?;
         let storing = Storing {
             first: self.first,
             stored: self.stored,

@@ -1,7 +1,7 @@
 // The transmit engine: a method for each phase, which hands back the next phase with the burst made, and the step of any phase.
 // Document 01, "The controller's steps", Transmit 1 to 6.
 
-ghost use Rattle.std.specs.Prelude.{◌≡◌, ◌+◌, ◌≤◌, length};
+ghost use Rattle.std.specs.Prelude.{◌≡◌, ◌+◌, ◌≤◌};
 ghost use Rattle.layout.specs.Choice.{pick};
 ghost use Rattle.layout.specs.Layout.{address_end};
 ghost use Rattle.words.specs.Word.{word};
@@ -12,10 +12,7 @@ ghost use Rattle.phases.specs.Quiet.{quiet_tx};
 
 use crate::common::{BURST_MAX, passes_end};
 use crate::{Burst, Closing, Finished, Leaving, Packet, Reading, Sending, Step};
-use descriptor::{
-    Descriptor, Place, descriptor_at, fetch_fault, first_byte, has_eop, length_of, packet_length,
-    sop_at, sum_at,
-};
+use descriptor::{Descriptor, Flag, Place, descriptor_at, has_flag, length_of, packet_length};
 use layout::{Memory, Side, slot_at};
 use marks::{mark_eoq, mark_owner};
 use words::word_of;
@@ -27,12 +24,12 @@ fn latch(d: Descriptor, pl: Place, sop: u32) -> Sending
 {
     Sending::Moving(Reading {
         sop,
-        word3: sop_at(pl, d.word3),
-        sum: sum_at(pl, d.word2),
-        at: first_byte(Side::Transmit, d.buffer, d.word2, d.word3) as u32,
+        word3: pl.sop_at(d),
+        sum: pl.sum_at(d),
+        at: d.first_byte(Side::Transmit) as u32,
         left: length_of(Side::Transmit, d.word2),
         next: d.next,
-        eop: has_eop(d.word3),
+        eop: has_flag(d.word3, Flag::Eop),
     })
 }
 
@@ -41,10 +38,8 @@ fn latch(d: Descriptor, pl: Place, sop: u32) -> Sending
 fn fetch_at(m: &Memory, pl: Place, sop: u32, hdp: u32, cp: u32) -> Option<Step<Sending>>
     ensures { result ≡ fetch (word m.now) pl sop hdp cp }
 {
-    let d = descriptor_at(m, slot_at(hdp)?.word);
-    if fetch_fault(pl, d.next, d.buffer, d.word2, d.word3) != 0 {
-        return None;
-    }
+    let d = descriptor_at(m, slot_at(hdp)?);
+    d.fetch_fault(pl).ok()?;
     Some(Step::quiet(latch(d, pl, sop), hdp, cp))
 }
 
@@ -182,7 +177,13 @@ impl Leaving {
 
 // The step of any phase; held: while reset or transmit teardown is pending.
 #[tactic(auto, unfolding(crate::specs::Transmit::send_step))]
-pub fn step_transmit(m: &mut Memory, s: Sending, hdp: u32, cp: u32, held: bool) -> Option<Step<Sending>>
+pub fn step_transmit(
+    m: &mut Memory,
+    s: Sending,
+    hdp: u32,
+    cp: u32,
+    held: bool,
+) -> Option<Step<Sending>>
     ensures { (result, m.new) ≡ send_step held m.old s hdp cp }
 {
     match s {
