@@ -71,11 +71,13 @@ impl Controller {
                 write_register(&mut self.state, n, v);
                 Ok(())
             }
-            Err(Refusal::NotGuarded) => Err(Refusal::NotGuarded),
-            Err(_) => {
-                self.undefined = true;
-                Err(Refusal::Undefined)
-            }
+            Err(refusal) => match refusal {
+                Refusal::NotGuarded => Err(refusal),
+                _ => {
+                    self.undefined = true;
+                    Err(Refusal::Undefined)
+                }
+            },
         }
     }
 

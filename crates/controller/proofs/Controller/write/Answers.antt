@@ -3,7 +3,6 @@ use Prim.Native.Nat.{ℕ, ◌-◌, ◌/◌}
 use mathlib.Core.Path.{◌∙◌, sym, ap}
 use mathlib.Core.List.{List}
 use native.Mathlib.Omega.{arith}
-use lib.ListN.{length}
 use Rattle.layout.specs.Layout.{desc_first}
 use Rattle.layout.specs.Class.{class_at}
 use Rattle.layout.proofs.PointerLaws.{in_descriptors-bounds}
@@ -34,10 +33,7 @@ pub overflow_sub-a : goal.overflow_sub-a
 overflow_sub-a c = (in_descriptors-bounds c.args.a (sym c.is_descriptor.ensures ∙ c.if-is_descriptor.true)).0
 
 pub put_at-requires : goal.put_at-requires
-put_at-requires c = (
-  ap length c.in-Some.ensures.cases.same ∙ c.in-Some.ensures.cases.long,
-  omega (arith, in_descriptors-bounds c.args.a (sym c.is_descriptor.ensures ∙ c.if-is_descriptor.true)),
-)
+put_at-requires c = omega (arith, in_descriptors-bounds c.args.a (sym c.is_descriptor.ensures ∙ c.if-is_descriptor.true))
 
 pub returns-then-is_descriptor : goal.returns-then-is_descriptor
 returns-then-is_descriptor c =
