@@ -7,7 +7,7 @@
 ghost use Rattle.std.specs.Prelude.{◌≡◌};
 ghost use Rattle.layout.specs.Refusals.{fault};
 ghost use Rattle.controller.specs.Controller.{outcome, step_of, arrival, frame_of};
-ghost use Rattle.host.specs.Host.{tells};
+ghost use Rattle.host.specs.Host.{told_of, tells};
 
 use controller::{Arrived, Controller, Stepped, step_by, take_frame_by};
 use layout::Refusal;
@@ -22,7 +22,9 @@ pub struct Told {
 
 // One step on a record that is lent, and changed there: the one entry for every engine.
 fn step_engine(c: &mut Controller, mem: &mut [u8], e: Engine) -> Told
-    ensures { tells result c.new mem.new ≡ step_of e c.old mem.old }
+    ensures { (tells result ≡ told_of (step_of e c.old mem.old))
+        × (c.new ≡ (step_of e c.old mem.old).ctl)
+        × (mem.new ≡ (step_of e c.old mem.old).mem) }
 {
     let Stepped { ctl, burst, answer } = step_by(*c, mem, e);
     *c = ctl;
