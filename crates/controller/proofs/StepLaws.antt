@@ -60,7 +60,7 @@ module _ (ch : ℕ) (c : Controller) (m x : List ℕ) {q p k : ℕ} (there : ch 
   unfolding transmit_step
   sent e w f g s =
       let at = send_at m (tx_of c ch) (w ∙ ap (λ (n : ℕ). held_back c n) e) (f ∙ ap (λ (n : ℕ). hdp_of c.state n) e)
-          (g ∙ ap (λ (n : ℕ). cp_of c.state n) e) in
+      (g ∙ ap (λ (n : ℕ). cp_of c.state n) e) in
       ap (λ (y : Option (Step Sending) × List ℕ). send_moved ch y c m) (s ∙ at) ∙ sym (on-channel c m (transmit_step ch c m) there)
 
   pub taken : {r : Option (Step Receiving)} → q ≡ queue_of Sides.Receive ch → p ≡ hdp_of c.state q → k ≡ cp_of c.state q

@@ -16,9 +16,11 @@ use Rattle.controller.specs.Controller.{StepDone, outcome, step_of, Framed, arri
 pub outcome-unique : (o : StepDone) (r s : Stepped) (x y : List ℕ) → outcome r x ≡ o → outcome s y ≡ o → (r ≡ s) × (x ≡ y)
 outcome-unique o r s x y p q =
     let e = p ∙ sym q in
-    let same = fault-unique r.answer s.answer (ap (λ (z : StepDone). z.number) e) in
-    (ap {B = Stepped} (λ (z : StepDone). record { ctl = z.ctl; burst = z.burst; answer = r.answer }) e
-    ∙ ap {B = Stepped} (λ (x : Result Unit Refusal). record { ctl = s.ctl; burst = s.burst; answer = x }) same, ap (λ (z : StepDone). z.mem) e)
+    let same = fault-unique r.answer s.answer (ap (λ (z : StepDone). z.number) e) in (
+      ap {B = Stepped} (λ (z : StepDone). record { ctl = z.ctl; burst = z.burst; answer = r.answer }) e
+          ∙ ap {B = Stepped} (λ (x : Result Unit Refusal). record { ctl = s.ctl; burst = s.burst; answer = x }) same,
+      ap (λ (z : StepDone). z.mem) e,
+    )
 
 pub arrival-unique : (o : Framed) (r s : Arrived) → arrival r ≡ o → arrival s ≡ o → r ≡ s
 arrival-unique o r s p q =

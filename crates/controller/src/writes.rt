@@ -8,9 +8,7 @@ ghost use Rattle.controller.specs.Controller.{answer, framed, frame_of, set_begu
 
 use crate::Controller;
 use crate::record::queue_of;
-use layout::{
-    DESC_FIRST, HDP, LENGTH_MAX, Refusal, Side, class_at, is_descriptor,
-};
+use layout::{DESC_FIRST, HDP, LENGTH_MAX, Refusal, Side, class_at, is_descriptor};
 use phases::receive::is_waiting;
 use phases::{Frame, Receiving};
 use registers::{HDP_LAST, is_awaiting, register_fault, write_register};

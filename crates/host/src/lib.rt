@@ -45,7 +45,11 @@ pub fn hosted(mut c: Controller, mem: &mut [u8], e: Engine) -> Stepped
     ensures { outcome result mem.new ≡ step_of e c mem.old }
 {
     let Told { burst, answer } = step_engine(&mut c, mem, e);
-    Stepped { ctl: c, burst, answer }
+    Stepped {
+        ctl: c,
+        burst,
+        answer,
+    }
 }
 
 // The same for a frame.

@@ -18,8 +18,8 @@ use controller::{Channel, Controller, Stepped, unguarded_write};
 use host::{hosted, hosted_frame};
 use layout::{CHANNELS, QUEUES, Refusal};
 use phases::{
-    Burst, Closing, Filled, Finished, Frame, Leaving, Packet, Reading, Receiving, Sending,
-    Stored, Storing, engine_at,
+    Burst, Closing, Filled, Finished, Frame, Leaving, Packet, Reading, Receiving, Sending, Stored,
+    Storing, engine_at,
 };
 use registers::State;
 use std::array;

@@ -20,9 +20,9 @@ returns-then-n-lt1 c =
     let n = c.args.n in
     let k = c.args.self.now in
     elim c.then-n-lt1.branch [
-      then-n-lt1-via-then-n-lt1 w ↦ sym (frame-empty n k c.if-self.false w.if-n-lt1.true)
-    | then-n-lt1-via-else-n-lt1+then-n-gt-LENGTH_MAX w ↦
-        sym (frame-long n k c.if-self.false w.if-n-lt1.false w.if-n-gt-LENGTH_MAX.true)
+      | then-n-lt1-via-then-n-lt1 w ↦ sym (frame-empty n k c.if-self.false w.if-n-lt1.true)
+      | then-n-lt1-via-else-n-lt1+then-n-gt-LENGTH_MAX w ↦
+          sym (frame-long n k c.if-self.false w.if-n-lt1.false w.if-n-gt-LENGTH_MAX.true)
     ]
 
 pub returns-then-first-eq0 : goal.returns-then-first-eq0
@@ -34,13 +34,13 @@ returns-then-first-eq0 c =
     let low = c.if-n-lt1.false in
     let high = c.if-n-gt-LENGTH_MAX.false in
     elim c.then-first-eq0.branch [
-      then-first-eq0-via-then-first-eq0 w ↦ sym (frame-headless n k live low high (sym first ∙ w.if-first-eq0.true))
-    | then-first-eq0-via-else-first-eq0+then-not-is_waiting w ↦
-        sym (frame-busy n k live low high (λ e. w.if-first-eq0.false (first ∙ e)) (sym w.is_waiting.ensures ∙ w.if-not-is_waiting.true))
-    | then-first-eq0-via-else-first-eq0+else-not-is_waiting+then-is_held w ↦
-        sym (frame-held n k live low high (λ e. w.if-first-eq0.false (first ∙ e))
-        (sym w.is_waiting.ensures ∙ w.if-not-is_waiting.false)
-        (sym (w.is_held.ensures ∙ ap (λ (q : ℕ). held_back k q) c.queue_of-q.ensures.0) ∙ w.if-is_held.true))
+      | then-first-eq0-via-then-first-eq0 w ↦ sym (frame-headless n k live low high (sym first ∙ w.if-first-eq0.true))
+      | then-first-eq0-via-else-first-eq0+then-not-is_waiting w ↦
+          sym (frame-busy n k live low high (λ e. w.if-first-eq0.false (first ∙ e)) (sym w.is_waiting.ensures ∙ w.if-not-is_waiting.true))
+      | then-first-eq0-via-else-first-eq0+else-not-is_waiting+then-is_held w ↦
+          sym (frame-held n k live low high (λ e. w.if-first-eq0.false (first ∙ e))
+          (sym w.is_waiting.ensures ∙ w.if-not-is_waiting.false)
+          (sym (w.is_held.ensures ∙ ap (λ (q : ℕ). held_back k q) c.queue_of-q.ensures.0) ∙ w.if-is_held.true))
     ]
 
 pub returns : goal.returns

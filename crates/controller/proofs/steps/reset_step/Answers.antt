@@ -11,12 +11,12 @@ use Rattle.controller.proofs.steps.reset_step.Goals.{then-not-is_resetting-via-e
 pub returns-then-not-is_resetting : goal.returns-then-not-is_resetting
 unfolding reset_step
 returns-then-not-is_resetting c = λ m. c.give.ensures m ∙ elim c.then-not-is_resetting.branch [
-      then-not-is_resetting-via-then-not-is_resetting w ↦ simp (sym c.is_resetting.ensures ∙ w.if-not-is_resetting.true)
-    | then-not-is_resetting-via-else-not-is_resetting+then-not-are_all_quiet w ↦ simp (
-      sym c.is_resetting.ensures ∙ w.if-not-is_resetting.false,
-      sym w.are_all_quiet.ensures ∙ w.if-not-are_all_quiet.true,
-    )
-    ]
+  | then-not-is_resetting-via-then-not-is_resetting w ↦ simp (sym c.is_resetting.ensures ∙ w.if-not-is_resetting.true)
+  | then-not-is_resetting-via-else-not-is_resetting+then-not-are_all_quiet w ↦ simp (
+    sym c.is_resetting.ensures ∙ w.if-not-is_resetting.false,
+    sym w.are_all_quiet.ensures ∙ w.if-not-are_all_quiet.true,
+  )
+]
 
 pub returns : goal.returns
 unfolding reset_step

@@ -19,8 +19,8 @@ returns c =
     let a = c.args in
     let gave = λ (x : List ℕ). answer 0 (set_stage a.q 2 a.c) x in
     c.give.ensures _ ∙ elim c.if-p-ne0.branch [
-      then-p-ne0+in-Some w ↦
+      | then-p-ne0+in-Some w ↦
           simp (sym c.hdp-p.ensures, ne_eqb _ _ w.if-p-ne0.true, w.in-Some.ensures.0)
           (ap gave (w.m-is ∙ w.mark_td.ensures ∙ ap (λ (k : ℕ). marked td_mark k a.m.now) w.in-Some.ensures.1))
-    | else-p-ne0 w ↦ simp (sym c.hdp-p.ensures, eq-eqb _ _ w.if-p-ne0.false) (ap gave w.m-is)
+      | else-p-ne0 w ↦ simp (sym c.hdp-p.ensures, eq-eqb _ _ w.if-p-ne0.false) (ap gave w.m-is)
     ]
