@@ -1,11 +1,12 @@
 -- What the public entries come to, by the tests that they make. Assumes nothing.
 --     entry-unfit, entry-undefined, entry-goes     memory of another size; a record that is undefined; neither
+--     entered                                      so a step of an engine is that engine's move
 --     frame-undefined, frame-empty, frame-long     a frame to a record that is undefined; one of no bytes; one over 2,047
 --     frame-headless, frame-busy, frame-held       a frame where no buffer is, where the engine does not wait, where something is pending
 --     frame-taken                                  a frame that is taken
 --     write-odd, write_word, write-register        an unguarded write that reaches no word, descriptor memory, or a register
 use Prim.Native.Nat.{ℕ, ◌-◌, ◌/◌, ◌%◌, ◌≤◌, ◌<◌}
-use mathlib.Core.Path.{◌≡◌, refl, ◌∙◌}
+use mathlib.Core.Path.{◌≡◌, refl, ap, sym, ◌∙◌}
 use mathlib.Core.Logic.{◌≢◌}
 use mathlib.Core.Bool.{Bool, true, false, not}
 use mathlib.Core.List.{List}
@@ -18,11 +19,12 @@ use Rattle.layout.specs.declared.Side.TheVariants.{Receive}
 use Rattle.layout.specs.Class.{class_at}
 use Rattle.words.specs.Word.{put}
 use Rattle.registers.specs.Table.{hdp_of}
+use Rattle.phases.specs.declared.Engine.{Engine}
 use Rattle.phases.specs.declared.Receiving.TheVariants.{Fetch}
 use Rattle.phases.specs.Quiet.{waits}
 use Rattle.controller.specs.declared.Controller.{Controller}
 use Rattle.controller.specs.Controller.{StepDone, Framed, answer, unless_undefined, rx_of, held_back, framed, set_rx, frame_of}
-use Rattle.controller.specs.Controller.{register_write, unguarded_write}
+use Rattle.controller.specs.Controller.{move_of, step_of, register_write, unguarded_write}
 
 module _ (c : Controller) (m : List ℕ) (x : StepDone) where
   pub entry-unfit : length m ≢ desc_bytes → unless_undefined c m x ≡ answer 1 c m
@@ -33,6 +35,13 @@ module _ (c : Controller) (m : List ℕ) (x : StepDone) where
 
   pub entry-goes : length m ≡ desc_bytes → c.undefined ≡ false → unless_undefined c m x ≡ x
   entry-goes h u = rw (eq-eqb _ _ h, u) refl
+
+-- an engine's step, on memory that is the same
+pub entered : (c : Controller) {e e₀ : Engine} {m y : List ℕ} → y ≡ m → length m ≡ desc_bytes → c.undefined ≡ false → e ≡ e₀
+    → move_of e₀ c y ≡ step_of e c m
+unfolding step_of
+entered c {e} {e₀} {m} h size live is =
+    ap (λ (x : List ℕ). move_of e₀ c x) h ∙ sym (entry-goes c m (move_of e c m) size live ∙ ap (λ (x : Engine). move_of x c m) is)
 
 -- ---- frames
 

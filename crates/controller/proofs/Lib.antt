@@ -1,3 +1,4 @@
+pub mod AnswerLaws
 pub mod StepLaws
 pub mod EntryLaws
 pub mod UniqueLaws

@@ -1,61 +1,41 @@
 -- What holds of the channels, of the engines' steps on the record, and of a teardown's stage. Assumes nothing.
---     quiet-more, quiet-whole    the first channels are quiet, by one more; all of them
+--     all-quiet                  what `all` asks of the channels
 --     on-channel, off-channel    an engine of a channel that there is; of one that there is not
---     send_at, take_at           a step depends on the values alone
+--     sent, taken                a channel's step, from what the engine's gave on the values in the record
 --     tear-1, tear-2, tear-3     a teardown that moves, by its stage
---     get_d_any                   inside a list no default counts
-use Prim.Native.Nat.{ℕ, zero, suc, ◌+◌, ◌<◌, ◌≤◌}
-use mathlib.Core.Path.{◌≡◌, refl, ap, sym}
+use Prim.Native.Nat.{ℕ, ◌<◌, ◌≤◌}
+use mathlib.Core.Path.{◌≡◌, refl, ap, sym, ◌∙◌}
 use mathlib.Core.Logic.{◌≢◌}
-use mathlib.Core.Bool.{Bool, true, false}
+use mathlib.Core.Bool.{Bool, true, false, ◌&&◌}
+use Rattle.std.specs.List.{list_all}
 use mathlib.Core.List.{List, [], ◌∷◌}
-use native.Mathlib.Nat.{not-suc-le-zero, le_of_suc-le-suc}
-use native.Mathlib.Numerals.{add-one}
-use lib.ListN.{length, get_or, take}
-use lib.Seq.{take_all}
 use lib.Dec.{eqb}
 use borrow.Author.Tests.{ne_eqb, lt-ltb, le-ltb}
 use Rattle.layout.specs.Choice.{pick, both}
-use Rattle.layout.specs.Layout.{channels}
+use Rattle.layout.specs.Layout.{channels, queue_of}
+use Rattle.layout.specs.declared.Side.TheVariants as Sides
+use Rattle.phases.specs.declared.Step.{Step}
+use Rattle.std.proofs.Common.{Option}
 use Rattle.phases.specs.declared.Sending.{Sending}
 use Rattle.phases.specs.declared.Receiving.{Receiving}
 use Rattle.phases.specs.Transmit as T
 use Rattle.phases.specs.Receive as U
-use Rattle.registers.specs.Table.{tearing_of}
+use Rattle.registers.specs.Table.{hdp_of, cp_of, tearing_of}
 use Rattle.controller.specs.declared.Channel.{Channel}
 use Rattle.controller.specs.declared.Controller.{Controller}
-use Rattle.controller.specs.Controller.{StepDone, idle_channel, stage_of, answer, quiet_engine, quiet_channel, all_quiet, on_channel}
+use Rattle.controller.specs.Controller.{StepDone, tx_of, rx_of, stage_of, answer, held_back, quiet_engine, quiet_channel, all_quiet}
+use Rattle.controller.specs.Controller.{on_channel, send_moved, take_moved, transmit_step, receive_step}
 use Rattle.controller.specs.Controller.{tear_mark, tear_clear, tear_report, tear_step}
-
-pub get_d_any : (l : List ℕ) (i d e : ℕ) → i < length l → get_or l i d ≡ get_or l i e
-get_d_any [] i d e h = absurd (not-suc-le-zero h)
-get_d_any (x ∷ l) zero d e h = refl
-get_d_any (x ∷ l) (suc i) d e h = get_d_any l i d e (le_of_suc-le-suc h)
 
 -- ---- every channel is quiet
 
-both_true : (b : Bool) → both b true ≡ b
-both_true true = refl
-both_true false = refl
-
-quiet-suc : (l : List Channel) (i : ℕ) → i < length l
-    → both (all_quiet (take i l)) (quiet_channel (get_or l i idle_channel)) ≡ all_quiet (take (suc i) l)
-quiet-suc [] i h = absurd (not-suc-le-zero h)
-quiet-suc (x ∷ l) zero h = sym (both_true (quiet_channel x))
-quiet-suc (x ∷ l) (suc i) h = at (quiet_channel x) (quiet-suc l i (le_of_suc-le-suc h))
+pub all-quiet : (l : List Channel) → list_all quiet_channel l ≡ all_quiet l
+all-quiet [] = refl
+all-quiet (x ∷ l) = at (quiet_channel x) (all-quiet l)
   where
-    at : (t : Bool) → both (all_quiet (take i l)) (quiet_channel (get_or l i idle_channel)) ≡ all_quiet (take (suc i) l)
-        → both (both t (all_quiet (take i l))) (quiet_channel (get_or l i idle_channel)) ≡ both t (all_quiet (take (suc i) l))
+    at : (t : Bool) {a b : Bool} → a ≡ b → (t && a) ≡ both t b
     at true e = e
     at false e = refl
-
-pub quiet-more : (l : List Channel) (i : ℕ) {a b : Bool} → i < length l → a ≡ all_quiet (take i l)
-    → b ≡ quiet_channel (get_or l i idle_channel)
-    → both a b ≡ all_quiet (take (i + 1) l)
-quiet-more l i h e f = rw (e, f, add-one i) (quiet-suc l i h)
-
-pub quiet-whole : (l : List Channel) (i : ℕ) → length l ≤ i → all_quiet (take i l) ≡ all_quiet l
-quiet-whole l i h = ap all_quiet (take_all i l h)
 
 -- ---- the engines' steps
 
@@ -66,12 +46,29 @@ module _ (c : Controller) (m : List ℕ) (x : StepDone) {ch : ℕ} where
   pub off-channel : channels ≤ ch → on_channel ch c m x ≡ answer 0 c m
   off-channel h = rw (le-ltb _ _ h) refl
 
-pub send_at : {h h₀ : Bool} {s s₀ : Sending} {p p₀ k k₀ : ℕ} (m : List ℕ) → h ≡ h₀ → s ≡ s₀ → p ≡ p₀ → k ≡ k₀
-    → T.send_step h m s p k ≡ T.send_step h₀ m s₀ p₀ k₀
-send_at m w x y z = cc
+send_at : {h h₀ : Bool} {p p₀ k k₀ : ℕ} (m : List ℕ) (s : Sending) → h ≡ h₀ → p ≡ p₀ → k ≡ k₀
+    → T.send_step h m s p k ≡ T.send_step h₀ m s p₀ k₀
+send_at m s w y z = cc
 
-pub take_at : {s s₀ : Receiving} {p p₀ k k₀ : ℕ} (m : List ℕ) → s ≡ s₀ → p ≡ p₀ → k ≡ k₀ → U.take_step m s p k ≡ U.take_step m s₀ p₀ k₀
-take_at m x y z = cc
+take_at : {p p₀ k k₀ : ℕ} (m : List ℕ) (s : Receiving) → p ≡ p₀ → k ≡ k₀ → U.take_step m s p k ≡ U.take_step m s p₀ k₀
+take_at m s y z = cc
+
+-- a step depends on the values alone: what it gave on those of the record is the channel's step
+module _ (ch : ℕ) (c : Controller) (m x : List ℕ) {q p k : ℕ} (there : ch < channels) where
+  pub sent : {held : Bool} {r : Option (Step Sending)} → q ≡ queue_of Sides.Transmit ch → held ≡ held_back c q → p ≡ hdp_of c.state q → k ≡ cp_of c.state q
+      → (r, x) ≡ T.send_step held m (tx_of c ch) p k → send_moved ch (r, x) c m ≡ on_channel ch c m (transmit_step ch c m)
+  unfolding transmit_step
+  sent e w f g s =
+      let at = send_at m (tx_of c ch) (w ∙ ap (λ (n : ℕ). held_back c n) e) (f ∙ ap (λ (n : ℕ). hdp_of c.state n) e)
+      (g ∙ ap (λ (n : ℕ). cp_of c.state n) e) in
+      ap (λ (y : Option (Step Sending) × List ℕ). send_moved ch y c m) (s ∙ at) ∙ sym (on-channel c m (transmit_step ch c m) there)
+
+  pub taken : {r : Option (Step Receiving)} → q ≡ queue_of Sides.Receive ch → p ≡ hdp_of c.state q → k ≡ cp_of c.state q
+      → (r, x) ≡ U.take_step m (rx_of c ch) p k → take_moved ch (r, x) c m ≡ on_channel ch c m (receive_step ch c m)
+  unfolding receive_step
+  taken e f g s =
+      let at = take_at m (rx_of c ch) (f ∙ ap (λ (n : ℕ). hdp_of c.state n) e) (g ∙ ap (λ (n : ℕ). cp_of c.state n) e) in
+      ap (λ (y : Option (Step Receiving) × List ℕ). take_moved ch y c m) (s ∙ at) ∙ sym (on-channel c m (receive_step ch c m) there)
 
 -- ---- the teardown's steps by stage
 

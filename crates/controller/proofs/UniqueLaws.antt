@@ -3,20 +3,31 @@
 --     step-by-unique, unguarded-write-unique, take-frame-by-unique, fresh-unique     a theorem for each public function
 use Prim.Native.Nat.{ℕ}
 use mathlib.Core.Path.{◌≡◌, ap, ◌∙◌, sym}
+use Rattle.std.proofs.Common.{Result}
+use Rattle.layout.specs.declared.refusals.Refusal.{Refusal}
 use mathlib.Core.List.{List}
 use Rattle.controller.specs.declared.Controller.{Controller}
 use Rattle.phases.specs.declared.Engine.{Engine}
 use Rattle.controller.specs.declared.Stepped.{Stepped}
 use Rattle.controller.specs.declared.Arrived.{Arrived}
+use Rattle.controller.proofs.AnswerLaws.{fault-unique}
 use Rattle.controller.specs.Controller.{StepDone, outcome, step_of, Framed, arrival, frame_of, unguarded_write, fresh_controller}
 
 pub outcome-unique : (o : StepDone) (r s : Stepped) (x y : List ℕ) → outcome r x ≡ o → outcome s y ≡ o → (r ≡ s) × (x ≡ y)
 outcome-unique o r s x y p q =
     let e = p ∙ sym q in
-    (ap {B = Stepped} (λ (z : StepDone). record { ctl = z.ctl; burst = z.burst; number = z.number }) e, ap (λ (z : StepDone). z.mem) e)
+    let same = fault-unique r.answer s.answer (ap (λ (z : StepDone). z.number) e) in (
+      ap {B = Stepped} (λ (z : StepDone). record { ctl = z.ctl; burst = z.burst; answer = r.answer }) e
+          ∙ ap {B = Stepped} (λ (x : Result Unit Refusal). record { ctl = s.ctl; burst = s.burst; answer = x }) same,
+      ap (λ (z : StepDone). z.mem) e,
+    )
 
 pub arrival-unique : (o : Framed) (r s : Arrived) → arrival r ≡ o → arrival s ≡ o → r ≡ s
-arrival-unique o r s p q = ap {B = Arrived} (λ (z : Framed). record { ctl = z.ctl; number = z.number }) (p ∙ sym q)
+arrival-unique o r s p q =
+    let e = p ∙ sym q in
+    ap {B = Arrived} (λ (z : Framed). record { ctl = z.ctl; answer = r.answer }) e
+    ∙ ap {B = Arrived} (λ (x : Result Unit Refusal). record { ctl = s.ctl; answer = x })
+    (fault-unique r.answer s.answer (ap (λ (z : Framed). z.number) e))
 
 pub step-by-unique : (c : Controller) (m : List ℕ) (e : Engine) (r s : Stepped) (x y : List ℕ)
     → outcome r x ≡ step_of e c m → outcome s y ≡ step_of e c m → (r ≡ s) × (x ≡ y)

@@ -16,12 +16,13 @@
 -- Registers and flags are a table (crate registers), as the guard's are; no head is ever set in it.
 -- Assumes nothing: these are definitions.
 use Rattle.std.specs.Prelude.{ℕ, ◌+◌, ◌-◌, ◌/◌, ◌%◌, min, Bool, true, false, not, List, [], ◌∷◌, length, get_or, set, replicate, eqb, leb}
-use Rattle.std.specs.Prelude.{ltb}
+use Rattle.std.specs.Prelude.{ltb, Option, Some, None}
 use Rattle.layout.specs.Choice.{pick, both}
 use Rattle.layout.specs.Layout.{desc_first, desc_bytes, length_max, good_ptr, word_of, in_descriptors, channels, queues, side_of}
 use Rattle.layout.specs.Layout.{channel_of}
 use Rattle.layout.specs.Layout.{queue_of}
 use Rattle.layout.specs.Class.{class_at, hdp_class}
+use Rattle.layout.specs.Refusals.{fault}
 use Rattle.layout.specs.declared.Side.{Side}
 use Rattle.layout.specs.declared.Side.TheVariants as Sides
 use Rattle.words.specs.Word.{put}
@@ -37,8 +38,7 @@ use Rattle.phases.specs.declared.Sending.{Sending}
 use Rattle.phases.specs.declared.Sending.TheVariants as S
 use Rattle.phases.specs.declared.Receiving.{Receiving}
 use Rattle.phases.specs.declared.Receiving.TheVariants as R
-use Rattle.phases.specs.declared.Sends.{Sends}
-use Rattle.phases.specs.declared.Takes.{Takes}
+use Rattle.phases.specs.declared.Step.{Step}
 use Rattle.phases.specs.Transmit.{send_step}
 use Rattle.phases.specs.Receive.{take_step}
 use Rattle.phases.specs.Quiet.{quiet_tx, quiet_rx, waits}
@@ -112,7 +112,7 @@ pub record StepDone : Type 0 where
 
 -- what a step handed back, with the memory that it left
 abbrev pub outcome : Stepped → List ℕ → StepDone
-outcome r m = record { ctl = r.ctl; mem = m; burst = r.burst; number = r.number }
+outcome r m = record { ctl = r.ctl; mem = m; burst = r.burst; number = fault r.answer }
 
 -- an answer, and nothing else. "A step that cannot move changes nothing": it answers 0
 abbrev pub answer : ℕ → Controller → List ℕ → StepDone
@@ -132,9 +132,9 @@ added t n = min (t + n) 0xFFFF_FFFF_FFFF_FFFF
 abbrev pub set_regs : ℕ → ℕ → ℕ → Controller → Controller
 set_regs q hdp cp c = set_state (set_hdp q hdp (set_cp q cp c.state)) c
 
-abbrev pub send_moved : ℕ → Sends × List ℕ → Controller → List ℕ → StepDone
-send_moved ch (Sends.Unfit, x) c m = undefine c m
-send_moved ch (Sends.Went s, x) c m = record {
+abbrev pub send_moved : ℕ → Option (Step Sending) × List ℕ → Controller → List ℕ → StepDone
+send_moved ch (None, x) c m = undefine c m
+send_moved ch (Some s, x) c m = record {
   ctl = set_regs (queue_of Sides.Transmit ch) s.hdp s.cp
       (set_totals (added c.sent s.octets) c.received (set_tx ch s.state c));
   mem = x;
@@ -142,9 +142,9 @@ send_moved ch (Sends.Went s, x) c m = record {
   number = 0;
 }
 
-abbrev pub take_moved : ℕ → Takes × List ℕ → Controller → List ℕ → StepDone
-take_moved ch (Takes.Unfit, x) c m = undefine c m
-take_moved ch (Takes.Went s, x) c m = record {
+abbrev pub take_moved : ℕ → Option (Step Receiving) × List ℕ → Controller → List ℕ → StepDone
+take_moved ch (None, x) c m = undefine c m
+take_moved ch (Some s, x) c m = record {
   ctl = set_regs (queue_of Sides.Receive ch) s.hdp s.cp (set_totals c.sent (added c.received s.octets) (set_rx ch s.state c));
   mem = x;
   burst = s.burst;
@@ -247,7 +247,7 @@ framed n c = record { ctl = c; number = n }
 
 -- the same, of what was handed back
 abbrev pub arrival : Arrived → Framed
-arrival r = framed r.number r.ctl
+arrival r = framed (fault r.answer) r.ctl
 
 unfoldable pub frame_of : ℕ → Controller → Framed
 frame_of n c =

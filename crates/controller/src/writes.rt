@@ -1,60 +1,90 @@
-// Register writes that no guard has judged: the rules 4 to 10 over the controller's own flags and registers.
+// What comes from outside: a frame, and a write that no guard has judged, by the rules 4 to 10 over the controller's own flags and registers.
 
-ghost use Rattle.std.specs.Prelude.{◌≡◌, List, ℕ, ◌-◌, ◌<◌};
+ghost use Rattle.std.specs.Prelude.{◌≡◌, List, ℕ, ◌-◌};
 ghost use Rattle.layout.specs.Choice.{pick};
-ghost use Rattle.layout.specs.Layout.{queues};
 ghost use Rattle.layout.specs.Class.{hdp_class};
-ghost use Rattle.controller.specs.Controller.{outcome, set_begun, starts_engine, register_write};
+ghost use Rattle.layout.specs.Refusals.{fault};
+ghost use Rattle.controller.specs.Controller.{answer, framed, frame_of, set_begun, starts_engine, register_write, unguarded_write};
 
-use crate::record::{give, give_undefined, set_rx, set_tx};
-use crate::{Controller, Stepped};
-use layout::{HDP, NOT_GUARDED, QUEUES, Side, side_of};
-use phases::{Receiving, Sending};
-use registers::{is_awaiting, register_fault, write_register};
+use crate::Controller;
+use crate::record::queue_of;
+use layout::{DESC_FIRST, HDP, LENGTH_MAX, Refusal, Side, class_at, is_descriptor};
+use phases::receive::is_waiting;
+use phases::{Frame, Receiving};
+use registers::{HDP_LAST, is_awaiting, register_fault, write_register};
+use words::put_at;
 
-// One past the last class of an HDP.
-const HDP_END: u8 = HDP + QUEUES as u8;
+impl Controller {
+    // A frame of n bytes comes, on channel 0.
+    pub fn take_frame(&mut self, n: u32) -> Result<(), Refusal>
+        ensures { framed (fault result) self.new ≡ frame_of n self.old }
+    {
+        if self.undefined {
+            return Err(Refusal::Undefined);
+        }
+        if n < 1 || LENGTH_MAX < n {
+            return Err(Refusal::BadFrame);
+        }
+        let q = queue_of(Side::Receive, 0);
+        let first = self.hdp(q);
+        if first == 0 || !is_waiting(self.channels[0].rx) || self.is_held(q) {
+            return Err(Refusal::Dropped);
+        }
+        let frame = Frame {
+            first,
+            stored: 0,
+            left: n,
+        };
+        self.channels[0].rx = Receiving::Fetch(frame);
+        Ok(())
+    }
 
-// A start puts the transmit engine at step 1, or the receive engine to waiting.
-fn set_begun(c: Controller, q: usize) -> Controller
-    requires { q < queues }
-    ensures { result ≡ set_begun q c }
-{
-    let side = side_of(q);
-    match side {
-        Side::Transmit => set_tx(c, q / 2, Sending::New),
-        Side::Receive => set_rx(c, q / 2, Receiving::Wait),
+    // A write that no guard has judged. Memory of another size than 8,192 bytes is answered 1.
+    pub fn write(&mut self, m: &mut [u8], a: u32, v: u32) -> Result<(), Refusal>
+        ensures { answer (fault result) self.new m.new ≡ unguarded_write a v self.old m.old }
+    {
+        let Some(m) = m.as_mut_array() else {
+            return Err(Refusal::Unfit);
+        };
+        if self.undefined {
+            return Err(Refusal::Undefined);
+        }
+        if a % 4 != 0 {
+            return Err(Refusal::Misaligned);
+        }
+        if is_descriptor(a) {
+            put_at(m, ((a - DESC_FIRST) / 4) as usize, v);
+            return Ok(());
+        }
+        self.write_class(class_at(a), v)
     }
-}
 
-// The engine after a write that its register takes: an HDP write starts it, unless it only zeroes.
-fn begin_engine(c: Controller, n: u8) -> Controller
-    ensures { result ≡ pick (starts_engine c n) (set_begun (n - hdp_class) c) c }
-{
-    let t = c.state;
-    if HDP_END <= n {
-        return c;
+    // The write of v to a register of class n.
+    fn write_class(&mut self, n: u8, v: u32) -> Result<(), Refusal>
+        ensures { (m : List ℕ) → answer (fault result) self.new m ≡ register_write n v self.old m }
+    {
+        match register_fault(&self.state, n, v) {
+            Ok(()) => {
+                self.begin_engine(n);
+                write_register(&mut self.state, n, v);
+                Ok(())
+            }
+            Err(refusal) => match refusal {
+                Refusal::NotGuarded => Err(refusal),
+                _ => {
+                    self.undefined = true;
+                    Err(Refusal::Undefined)
+                }
+            },
+        }
     }
-    if is_awaiting(&t) {
-        return c;
-    }
-    set_begun(c, (n - HDP) as usize)
-}
 
-// The write of v to a register of class n.
-pub fn register_write(c: Controller, n: u8, v: u32) -> Stepped
-    ensures { (m : List ℕ) → outcome result m ≡ register_write n v c m }
-{
-    let mut t = c.state;
-    let fault = register_fault(&t, n, v);
-    if fault == NOT_GUARDED {
-        return give(c, NOT_GUARDED);
+    // The engine before a write that its register takes: an HDP write starts it, unless it only zeroes.
+    fn begin_engine(&mut self, n: u8)
+        ensures { self.new ≡ pick (starts_engine self.old n) (set_begun (n - hdp_class) self.old) self.old }
+    {
+        if n <= HDP_LAST && !is_awaiting(&self.state) {
+            self.begin((n - HDP) as usize);
+        }
     }
-    if fault != 0 {
-        return give_undefined(c);
-    }
-    write_register(&mut t, n, v);
-    let mut d = begin_engine(c, n);
-    d.state = t;
-    give(d, 0)
 }

@@ -8,14 +8,15 @@
 #![tactic(auto)]
 
 ghost use Rattle.std.specs.Prelude.{◌≡◌, List, ℕ};
-ghost use Rattle.machine.specs.Machine.{apply_write, apply_kind, apply_frame, apply_step};
+ghost use Rattle.layout.specs.Refusals.{fault};
+ghost use Rattle.machine.specs.Machine.{answer_of, apply_write, apply_kind, apply_frame, apply_step};
 ghost use Rattle.machine.specs.After.{machine_at, Leaves, Moves, left_alone, met, reached_by};
 
-use controller::{Controller, Stepped, unguarded_write};
-use guard::{Answer, Effect, answer_number, answer_to, guest_write};
+use controller::{Arrived, Controller, Stepped, unguarded_write};
+use guard::{Answer, Effect, answer_number, guest_write};
 use host::{hosted, hosted_frame};
 use kinds::kind_change;
-use layout::{Lengths, Words};
+use layout::{Lengths, Refusal, Words};
 use phases::{Burst, Engine};
 use registers::{State, load_registers};
 
@@ -27,27 +28,35 @@ pub struct After {
     pub burst: Burst,
 }
 
-// The controller as it is, under the guard's answer.
-fn keep(c: Controller, answer: Answer) -> After
-    ensures { result ≡ left_alone c answer }
+// What the controller has told, as an answer.
+fn plain(told: Result<(), Refusal>) -> Answer
+    ensures { result ≡ answer_of (fault told) }
 {
-    let burst = Burst::Quiet;
+    match told {
+        Ok(()) => Answer::Accepted(Effect::Plain),
+        Err(refusal) => Answer::Refused(u8::from(refusal)),
+    }
+}
+
+// The controller as it is, under an answer.
+fn keep(ctl: Controller, answer: Answer) -> After
+    ensures { result ≡ left_alone ctl answer }
+{
     After {
-        ctl: c,
+        ctl,
         answer,
-        burst,
+        burst: Burst::Quiet,
     }
 }
 
 // The controller's own answer to an accepted write: 22 there is the answer.
 fn meet(s: Stepped, answer: Answer) -> After
-    ensures { result ≡ met s.ctl s.number answer }
+    ensures { result ≡ met s.ctl (fault s.answer) answer }
 {
-    let ctl = s.ctl;
-    if s.number == 0 {
-        return keep(ctl, answer);
+    match s.answer {
+        Ok(()) => keep(s.ctl, answer),
+        Err(refusal) => keep(s.ctl, Answer::Refused(u8::from(refusal))),
     }
-    keep(ctl, Answer::Refused(s.number))
 }
 
 // What the guard has answered is carried out: an accepted write goes on to the controller.
@@ -60,7 +69,7 @@ fn carry_out(a: u32, v: u32, c: Controller, answer: Answer, m: &mut [u8]) -> Aft
     meet(unguarded_write(c, m, a, v), answer)
 }
 
-// A guest write of v to address a.
+// A guest write of v to address a. What it changes is lent one by one, of any size: a record of loans would need a clause for each loan.
 pub fn apply_write(
     a: u32,
     v: u32,
@@ -75,8 +84,7 @@ pub fn apply_write(
         (apply_write a v (machine_at c m.old kinds.now t.old used.old lens.old)) result
         m.new kinds.now t.new used.new lens.new }
 {
-    let registers = c.state;
-    load_registers(t, &registers);
+    load_registers(t, &c.state);
     let answer = guest_write(a, v, m, kinds, t, used, lens);
     carry_out(a, v, c, answer, m)
 }
@@ -97,8 +105,7 @@ pub fn apply_kind(
         result
         m.now kinds.new t.new used.new lens.new }
 {
-    let registers = c.state;
-    load_registers(t, &registers);
+    load_registers(t, &c.state);
     keep(c, kind_change(block, kind, m, kinds, t, used, lens))
 }
 
@@ -106,20 +113,15 @@ pub fn apply_kind(
 pub fn apply_frame(n: u32, c: Controller) -> After
     ensures { (m : List ℕ) → Moves (apply_frame n) c m result m }
 {
-    let x = hosted_frame(c, n);
-    let ctl = x.ctl;
-    let answer = answer_to(Effect::Plain, x.number);
-    let burst = Burst::Quiet;
-    After { ctl, answer, burst }
+    let Arrived { ctl, answer } = hosted_frame(c, n);
+    keep(ctl, plain(answer))
 }
 
 // One step of an engine.
 pub fn apply_step(e: Engine, c: Controller, m: &mut [u8]) -> After
     ensures { Moves (apply_step e) c m.old result m.new }
 {
-    let x = hosted(c, m, e);
-    let ctl = x.ctl;
-    let answer = answer_to(Effect::Plain, x.number);
-    let burst = x.burst;
+    let Stepped { ctl, burst, answer } = hosted(c, m, e);
+    let answer = plain(answer);
     After { ctl, answer, burst }
 }

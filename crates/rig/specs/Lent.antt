@@ -1,21 +1,11 @@
 -- A call of the controller as a caller in C sees it: a record in parts, and what the call leaves.
---     engine_at e ch        who takes a step: 0 the reset; on channel ch 1 transmit, 2 receive, 3 the transmit teardown, any other the
---                          receive teardown
 --     Lent, lent           the answer, the record's parts, the burst's words and descriptor memory afterwards
 --     lent_by p o           what the outcome o leaves of the parts p
 --     Came, came, came_by   the same for a frame, which moves nothing over the bus and has no memory
 -- Assumes nothing: these are definitions.
-use Rattle.std.specs.Prelude.{ℕ, List, eqb}
-use Rattle.layout.specs.Choice.{pick}
-use Rattle.phases.specs.declared.Engine.{Engine}
-use Rattle.phases.specs.declared.Engine.TheVariants.{Reset, Transmit, Receive, TearTransmit, TearReceive}
+use Rattle.std.specs.Prelude.{ℕ, List}
 use Rattle.controller.specs.Controller.{StepDone, Framed}
 use Rattle.rig.specs.Record.{Parts, saved_in, burst_words}
-
-abbrev pub engine_at : ℕ → ℕ → Engine
-engine_at e ch =
-    pick (eqb e 0) Reset
-    (pick (eqb e 1) (Transmit ch) (pick (eqb e 2) (Receive ch) (pick (eqb e 3) (TearTransmit ch) (TearReceive ch))))
 
 pub record Lent : Type 0 where
   pub answer : ℕ

@@ -7,21 +7,24 @@
 
 ghost use Rattle.std.specs.Prelude.{◌≡◌};
 ghost use Rattle.layout.specs.Layout.{channels};
+ghost use Rattle.layout.specs.Refusals.{fault};
+ghost use Rattle.phases.specs.Engines.{engine_at};
 ghost use Rattle.controller.specs.Controller.{step_of, frame_of, unguarded_write};
-ghost use Rattle.rig.specs.Record.{flag_word_of, sending_in, receiving_in, channels_in, sending_words, receiving_words, burst_words};
+ghost use Rattle.rig.specs.Record.{sending_in, receiving_in, channels_in, sending_words, receiving_words, burst_words};
 ghost use Rattle.rig.specs.Record.{parts, controller_in, tx_to, rx_to, saved_in};
-ghost use Rattle.rig.specs.Lent.{engine_at, lent, lent_by, came, came_by};
+ghost use Rattle.rig.specs.Lent.{lent, lent_by, came, came_by};
 
 use controller::{Channel, Controller, Stepped, unguarded_write};
 use host::{hosted, hosted_frame};
-use layout::{CHANNELS, QUEUES};
+use layout::{CHANNELS, QUEUES, Refusal};
 use phases::{
-    Burst, Closing, Engine, Filled, Finished, Frame, Leaving, Packet, Reading, Receiving, Sending,
-    Stored, Storing,
+    Burst, Closing, Filled, Finished, Frame, Leaving, Packet, Reading, Receiving, Sending, Stored,
+    Storing, engine_at,
 };
 use registers::State;
+use std::array;
 
-// A record is lent as its own table and stages, a row of words for each engine, and the rest: sent, received, undefined.
+// A record is lent, as C has it, as its own table and stages, a row of words for each engine, and the rest: sent, received, undefined.
 pub type Stages = [u8; QUEUES];
 
 pub type SendingRow = [u32; 8];
@@ -34,23 +37,13 @@ pub type ReceivingRows = [ReceivingRow; CHANNELS];
 
 pub type Rest = [u64; 3];
 
-// The word of a flag.
-fn flag_word(b: bool) -> u32
-    ensures { result ≡ flag_word_of b }
+// The number of an answer, 0 where nothing is refused.
+fn number(answer: Result<(), Refusal>) -> u32
+    ensures { result ≡ fault answer }
 {
-    if b { 1 } else { 0 }
-}
-
-// Who takes a step, by number.
-fn read_engine(e: u8, ch: u8) -> Engine
-    ensures { result ≡ engine_at e ch }
-{
-    match e {
-        0 => Engine::Reset,
-        1 => Engine::Transmit(ch),
-        2 => Engine::Receive(ch),
-        3 => Engine::TearTransmit(ch),
-        _ => Engine::TearReceive(ch),
+    match answer {
+        Ok(()) => 0,
+        Err(refusal) => refusal as u32,
     }
 }
 
@@ -58,14 +51,8 @@ fn read_engine(e: u8, ch: u8) -> Engine
 fn read_sending(w: SendingRow) -> Sending
     ensures { result ≡ sending_in w }
 {
-    let tag = w[0];
-    let sop = w[1];
-    let word3 = w[2];
-    let sum = w[3];
-    let at = w[4];
-    let left = w[5];
-    let next = w[6];
-    let eop = w[7] == 1;
+    let [tag, sop, word3, sum, at, left, next, eop] = w;
+    let eop = eop == 1;
     match tag {
         0 => Sending::Idle,
         1 => Sending::New,
@@ -96,15 +83,8 @@ fn read_sending(w: SendingRow) -> Sending
 fn read_receiving(w: ReceivingRow) -> Receiving
     ensures { result ≡ receiving_in w }
 {
-    let tag = w[0];
-    let first = w[1];
-    let stored = w[2];
-    let left = w[3];
-    let at = w[4];
-    let room = w[5];
-    let here = w[6];
-    let next = w[7];
-    let overrun = w[8] == 1;
+    let [tag, first, stored, left, at, room, here, next, overrun] = w;
+    let overrun = overrun == 1;
     match tag {
         0 => Receiving::Idle,
         1 => Receiving::Wait,
@@ -150,23 +130,13 @@ fn read_receiving(w: ReceivingRow) -> Receiving
 fn read_channels(tx: &SendingRows, rx: &ReceivingRows) -> [Channel; CHANNELS]
     ensures { result ≡ channels_in tx.now rx.now }
 {
-    let idle = Channel {
-        tx: Sending::Idle,
-        rx: Receiving::Idle,
-    };
-    let mut all = [idle; CHANNELS];
-    let mut ch: usize = 0;
-    while ch < CHANNELS {
-        let t = read_sending(tx[ch]);
-        let r = read_receiving(rx[ch]);
-        let x = Channel { tx: t, rx: r };
-        all[ch] = x;
-        ch += 1;
-    }
-    all
+    array::from_fn(|ch| Channel {
+        tx: read_sending(tx[ch]),
+        rx: read_receiving(rx[ch]),
+    })
 }
 
-// The record of all parts.
+// The record of all parts. They stay five arrays, as C lends them.
 fn read_record(
     state: &State,
     stages: &Stages,
@@ -177,15 +147,11 @@ fn read_record(
     ensures { result ≡ controller_in
         (parts state.now stages.now tx.now rx.now rest.now) }
 {
-    let channels = read_channels(tx, rx);
-    let table = *state;
-    let steps = *stages;
-    let undefined = rest[2] == 1;
     Controller {
-        state: table,
-        stages: steps,
-        channels: channels,
-        undefined: undefined,
+        state: *state,
+        stages: *stages,
+        channels: read_channels(tx, rx),
+        undefined: rest[2] == 1,
         sent: rest[0],
         received: rest[1],
     }
@@ -207,9 +173,9 @@ fn sending_words(s: Sending) -> SendingRow
             r.at,
             r.left,
             r.next,
-            flag_word(r.eop),
+            u32::from(r.eop),
         ],
-        Sending::Ended(e) => [4, e.sop, e.word3, e.sum, 0, 0, e.next, flag_word(e.eop)],
+        Sending::Ended(e) => [4, e.sop, e.word3, e.sum, 0, 0, e.next, u32::from(e.eop)],
         Sending::Marking(e) => [5, e.sop, e.word3, 0, 0, 0, e.next, 0],
         Sending::Owning(e) => [6, e.sop, e.word3, 0, 0, 0, e.next, 0],
         Sending::Done(e) => [7, 0, 0, 0, 0, 0, e.next, 0],
@@ -235,7 +201,7 @@ fn receiving_words(s: Receiving) -> ReceivingRow
             0,
             l.here,
             l.next,
-            flag_word(l.overrun),
+            u32::from(l.overrun),
         ],
         Receiving::First(l) => [
             6,
@@ -246,7 +212,7 @@ fn receiving_words(s: Receiving) -> ReceivingRow
             0,
             0,
             l.next,
-            flag_word(l.overrun),
+            u32::from(l.overrun),
         ],
         Receiving::Done(e) => [7, 0, 0, 0, 0, 0, 0, e.next, 0],
     }
@@ -264,19 +230,12 @@ fn burst_words(b: Burst) -> [u32; 3]
 }
 
 // The channels into their rows.
-fn save_channels(tx: &mut SendingRows, rx: &mut ReceivingRows, all: [Channel; CHANNELS])
-    ensures { (tx.new ≡ tx_to channels all tx.old) × (rx.new ≡ rx_to channels all rx.old) }
+fn save_channels(tx: &mut SendingRows, rx: &mut ReceivingRows, all: &[Channel; CHANNELS])
+    ensures { (tx.new ≡ tx_to channels all.now tx.old) × (rx.new ≡ rx_to channels all.now rx.old) }
 {
-    let mut ch: usize = 0;
-    while ch < CHANNELS {
-        let x = all[ch];
-        let t = x.tx;
-        let r = x.rx;
-        let sending = sending_words(t);
-        tx[ch] = sending;
-        let receiving = receiving_words(r);
-        rx[ch] = receiving;
-        ch += 1;
+    for (ch, x) in all.iter().enumerate() {
+        tx[ch] = sending_words(x.tx);
+        rx[ch] = receiving_words(x.rx);
     }
 }
 
@@ -292,14 +251,10 @@ fn save_record(
     ensures { parts state.new stages.new tx.new rx.new rest.new
         ≡ saved_in (parts state.old stages.old tx.old rx.old rest.old) k }
 {
-    let channels = k.channels;
-    save_channels(tx, rx, channels);
-    let undefined = flag_word(k.undefined) as u64;
-    let table = k.state;
-    *state = table;
-    let steps = k.stages;
-    *stages = steps;
-    *rest = [k.sent, k.received, undefined];
+    save_channels(tx, rx, &k.channels);
+    *state = k.state;
+    *stages = k.stages;
+    *rest = [k.sent, k.received, u64::from(k.undefined)];
 }
 
 // What a step left, into the parts and the burst's words, and its answer.
@@ -312,16 +267,14 @@ fn save_stepped(
     burst: &mut [u32; 3],
     s: Stepped,
 ) -> u32
-    ensures { (result ≡ s.number)
+    ensures { (result ≡ fault s.answer)
         × (parts state.new stages.new tx.new rx.new rest.new
         ≡ saved_in (parts state.old stages.old tx.old rx.old rest.old) s.ctl)
         × (burst.new ≡ burst_words s.burst) }
 {
-    let ctl = s.ctl;
-    save_record(state, stages, tx, rx, rest, ctl);
-    let b = s.burst;
-    *burst = burst_words(b);
-    s.number as u32
+    save_record(state, stages, tx, rx, rest, s.ctl);
+    *burst = burst_words(s.burst);
+    number(s.answer)
 }
 
 // One step, on any record: of the reset (0), or on that channel of an engine (1, 2) or its teardown (3, 4).
@@ -343,9 +296,8 @@ pub fn gresomund_step(
         (controller_in (parts state.old stages.old tx.old rx.old rest.old))
         mem.old) }
 {
-    let e = read_engine(engine, channel);
     let k = read_record(state, stages, tx, rx, rest);
-    let s = hosted(k, mem, e);
+    let s = hosted(k, mem, engine_at(engine, channel));
     save_stepped(state, stages, tx, rx, rest, burst, s)
 }
 
@@ -389,7 +341,6 @@ pub fn gresomund_frame(
 {
     let k = read_record(state, stages, tx, rx, rest);
     let a = hosted_frame(k, n);
-    let ctl = a.ctl;
-    save_record(state, stages, tx, rx, rest, ctl);
-    a.number as u32
+    save_record(state, stages, tx, rx, rest, a.ctl);
+    number(a.answer)
 }

@@ -5,9 +5,10 @@
 #![tactic(auto)]
 
 ghost use Rattle.std.specs.Prelude.{◌≡◌};
+ghost use Rattle.phases.specs.Engines.{engine_at};
 ghost use Rattle.controller.specs.Controller.{step_of, frame_of, unguarded_write};
 ghost use Rattle.rig.specs.Record.{parts, controller_in};
-ghost use Rattle.rig.specs.Lent.{engine_at, lent, lent_by, came, came_by};
+ghost use Rattle.rig.specs.Lent.{lent, lent_by, came, came_by};
 
 use registers::State;
 use rig::{ReceivingRows, Rest, SendingRows, Stages};

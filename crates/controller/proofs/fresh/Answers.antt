@@ -4,4 +4,4 @@ use Rattle.controller.proofs.fresh.Goals as goal
 
 pub returns : goal.returns
 unfolding fresh_controller
-returns c = simp c.idle_channels-channels.ensures
+returns c = simp c.idle_channels.ensures

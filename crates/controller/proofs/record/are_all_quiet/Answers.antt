@@ -1,19 +1,14 @@
--- `controller::record::are_all_quiet` meets its contract: so far all channels before `ch` were asked. Assumes nothing.
-use Prim.Native.Nat.{◌<◌}
-use mathlib.Core.Path.{refl, ◌∙◌}
-use native.Mathlib.Omega.{arith}
-use lib.ListN.{length}
-use Rattle.controller.proofs.StepLaws.{quiet-more, quiet-whole}
+-- `controller::record::are_all_quiet` meets its contract: every channel was asked. Assumes nothing.
+use mathlib.Core.Path.{◌∙◌}
+use Rattle.std.proofs.Common.{rules, tests}
+use Rattle.std.proofs.lemmas.Iterator.{YieldsList-from_slice}
+use Rattle.std.proofs.lemmas.Iterator.Search.{all_from_yields_List}
+use Rattle.controller.specs.Controller.{quiet_channel}
+use Rattle.controller.proofs.StepLaws.{all-quiet}
 use Rattle.controller.proofs.record.are_all_quiet.Goals as goal
 
-pub loop-ch-init : goal.loop-ch-init
-loop-ch-init c = (omega arith, refl)
-
-pub loop-ch-preserved : goal.loop-ch-preserved
-loop-ch-preserved c = let l = c.loop-ch in
-    let h : l.ch < length c.args.all = omega (arith, c.well_formed) in
-    (omega arith, c.are_both-quiet.ensures ∙ quiet-more c.args.all l.ch h l.invariant.1 c.is_quiet_channel.ensures)
-
 pub returns : goal.returns
-returns c = let l = c.loop-ch in
-    l.invariant.1 ∙ quiet-whole c.args.all l.ch (omega (arith, c.well_formed))
+returns c =
+    let xs = c.args.all.now in
+    all_from_yields_List quiet_channel _ _ _ c.all.ensures.ran (YieldsList-from_slice xs cc) (λ x b q k. search (rules, tests))
+    ∙ all-quiet xs
