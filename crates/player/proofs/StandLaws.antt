@@ -1,9 +1,9 @@
 -- Where a run stands behind each part of a turn. Assumes nothing.
 --     line-ends                a line that was printed, and those gathered before it
---     next_fits                what is decoded lies within the window
+--     decoded-fits             what is decoded lies within the window
 --     acted-end, acted-bad, acted-good   what was decoded is played
 --     kept-few, turned         few lines are kept before a record; one turn whole
---     still, reached-none, reached-more, reached-all, reached-going, reached-over   turns one after another, until the run is over
+--     still, reached-none, reached-more, reached-going, reached-over   turns one after another, until the run is over
 use Prim.Native.Nat.{ℕ, ◌+◌, ◌-◌, ◌≤◌, ◌<◌}
 use mathlib.Core.Path.{◌≡◌, refl, ap, ◌∙◌, sym, subst}
 use mathlib.Core.Bool.{Bool, true, false}
@@ -29,7 +29,7 @@ use Rattle.replay.specs.Replay.{record_of}
 use Rattle.replay.specs.Plays.{Plays}
 use Rattle.window.specs.declared.Window.{Window}
 use Rattle.window.specs.Window.{window_of, Inside, Refilled}
-use Rattle.window.proofs.WindowLaws.{window-part, length-window, window-pass}
+use Rattle.window.proofs.WindowLaws.{length-window, window-pass}
 use Rattle.player.specs.declared.Run.{Run}
 use Rattle.player.specs.Stands.{Enough, Lines, Stands, offset_end, run_at}
 use Rattle.player.specs.Turns.{gathered_max, kept_at, flushed, size_of, Ends, Went, Acted, Turned, Reached}
@@ -48,12 +48,9 @@ size-decoded bs End e = omega arith
 size-decoded bs (Good r n) e = (decode-sized bs false r n (sym e)).1
 size-decoded bs Bad e = omega arith
 
--- of the part that was lent
-pub next_fits : (w : Window) (x : List ℕ) (d : Decoded) → Inside w x → d ≡ decode false (take (w.len - w.from) (drop w.from x))
-    → (d ≡ decode false (window_of w x)) × (w.from + size_of d ≤ w.len)
-next_fits w x d h e =
-    let f : d ≡ decode false (window_of w x) = e ∙ ap (λ (l : List ℕ). decode false l) (window-part w x) in
-    (f, omega (arith, h.order, length-window w x h, size-decoded (window_of w x) d f))
+pub decoded-fits : (w : Window) (x : List ℕ) (d : Decoded) → Inside w x → d ≡ decode false (window_of w x)
+    → w.from + size_of d ≤ w.len
+decoded-fits w x d h e = omega (arith, h.order, length-window w x h, size-decoded (window_of w x) d e)
 
 pub good-fits : (w : Window) {d : Decoded} {r : Record} {n : ℕ} → d ≡ Good r n → w.from + size_of d ≤ w.len → w.from + n ≤ w.len
 good-fits w e h = subst (λ (k : ℕ). w.from + k ≤ w.len) (ap size_of e) h
@@ -244,10 +241,6 @@ module _ (s : Run) (m k t u l x y : List ℕ) where
                     omega (arith, less, some, v.1 going, w.1 z),
               );
         }
-
-    -- no turn is left
-    pub reached-all : turns ≤ 0 → Reached 0 s m k t u l x y r m1 k1 t1 u1 l1 x1 y1
-    reached-all h = let e : turns ≡ 0 = omega (arith, h) in subst (λ (z : ℕ). Reached z s m k t u l x y r m1 k1 t1 u1 l1 x1 y1) e a
 
 -- then the run is over: each record has a byte, and fewer bytes were read than there are turns
 not_going : (t : Bool) (o n : ℕ) → (t ≡ true → offset_end ≤ 0 + o) → o + n < offset_end → t ≡ false
