@@ -1,6 +1,7 @@
 -- What the size of a record tells, and how much of the input decides it. Assumes nothing.
 --     Sized bs d         if d is a record, it has at least 4 bytes, and bs has them all
 --     decode-sized       what bs begins with is Sized
+--     same_found         a record and its size are told by what was decoded
 --     decode-append, decode-take   record_max bytes of the input decide what it begins with
 use Prim.Native.Nat.{ℕ, ◌+◌, ◌≤◌, ◌<◌}
 use mathlib.Core.Path.{◌≡◌, refl, ap, ◌∙◌, sym}
@@ -11,35 +12,39 @@ use lib.ListN.{length, get_or, take, drop, length-append, length-drop, take-appe
 use lib.Seq.{length-take-le, take_all, take-append-le, drop-append-le}
 use lib.Dec.{eqb, leb}
 use borrow.Author.Tests.{le-leb, leb-true, leb-false, ne_eqb}
+use Rattle.std.proofs.Common.{Ok, None, Some}
 use Rattle.layout.specs.Choice.{pick, both}
 use Rattle.layout.proofs.ChoiceLaws.{both_right}
 use Rattle.blocks.specs.Kinds.{all_kinds}
 use Rattle.records.specs.declared.Record.{Record}
 use Rattle.records.specs.declared.Record.TheVariants.{Ram}
-use Rattle.records.specs.declared.Decoded.{Decoded}
-use Rattle.records.specs.declared.Decoded.TheVariants.{End, Good, Bad}
-use Rattle.records.specs.Records.{u16_at, has_mark, needs, ram_max, record_max, engine_max, decode_ram, decode_later, decode}
+
+use Rattle.records.specs.Records.{Decoded, bad, u16_at, has_mark, needs, ram_max, record_max, engine_max, decode_ram, decode_later, decode}
 
 -- ---- size
 
 abbrev pub Sized : List ℕ → Decoded → Type 0
-Sized bs d = (r : Record) (n : ℕ) → d ≡ Good r n → (4 ≤ n) × (n ≤ length bs)
+Sized bs d = (r : Record) (n : ℕ) → d ≡ Ok (Some (r, n)) → (4 ≤ n) × (n ≤ length bs)
+
+-- a record and its size are told by what was decoded
+pub same_found : {p q : Record × ℕ} → ◌≡◌ {A = Decoded} (Ok (Some p)) (Ok (Some q)) → p ≡ q
+same_found e = cc
 
 module _ (bs : List ℕ) where
-  sized-bad : Sized bs Bad
+  sized-bad : Sized bs bad
   sized-bad r n e = let z : ◌≡◌ {A = ℕ} 0 1 = cc in absurd (omega arith)
 
-  sized-end : Sized bs End
+  sized-end : Sized bs (Ok None)
   sized-end r n e = let z : ◌≡◌ {A = ℕ} 0 1 = cc in absurd (omega arith)
 
-  sized-good : (s : Record) (m : ℕ) → 4 ≤ m → m ≤ length bs → Sized bs (Good s m)
-  sized-good s m h g r n e = let z : m ≡ n = cc in (omega arith, omega arith)
+  sized-good : (s : Record) (m : ℕ) → 4 ≤ m → m ≤ length bs → Sized bs (Ok (Some (s, m)))
+  sized-good s m h g r n e = let z : m ≡ n = ap (λ (p : Record × ℕ). p.1) (same_found e) in (omega arith, omega arith)
 
   sized-pick : (t : Bool) (x y : Decoded) → Sized bs x → Sized bs y → Sized bs (pick t x y)
   sized-pick true x y p q = p
   sized-pick false x y p q = q
 
-  needs-at : (t : Bool) (k : ℕ) (d : Decoded) → leb k (length bs) ≡ t → (k ≤ length bs → Sized bs d) → Sized bs (pick t d Bad)
+  needs-at : (t : Bool) (k : ℕ) (d : Decoded) → leb k (length bs) ≡ t → (k ≤ length bs → Sized bs d) → Sized bs (pick t d bad)
   needs-at true k d e p = p (leb-true k (length bs) e)
   needs-at false k d e p = sized-bad
 
@@ -52,8 +57,8 @@ module _ (bs : List ℕ) where
       let n = u16_at bs 2 in
       let kinds = all_kinds (take n (drop 4 bs)) in
       sized-needs 4 _
-      (λ h. sized-pick (both (leb 1 n) (leb n ram_max)) _ Bad
-      (sized-needs (4 + n) _ (λ g. sized-pick kinds _ Bad (sized-good (Ram n) (4 + n) (omega arith) g) sized-bad))
+      (λ h. sized-pick (both (leb 1 n) (leb n ram_max)) _ bad
+      (sized-needs (4 + n) _ (λ g. sized-pick kinds _ bad (sized-good (Ram n) (4 + n) (omega arith) g) sized-bad))
       sized-bad)
 
   later-sized : Sized bs (decode_later bs)
@@ -77,8 +82,8 @@ abbrev ram_of : List ℕ → ℕ → Decoded
 ram_of bs n =
     needs 4 bs
     (pick (both (leb 1 n) (leb n ram_max))
-    (needs (4 + n) bs (pick (all_kinds (take n (drop 4 bs))) (Good (Ram n) (4 + n)) Bad))
-    Bad)
+    (needs (4 + n) bs (pick (all_kinds (take n (drop 4 bs))) (Ok (Some (Ram n, 4 + n))) bad))
+    bad)
 
 module _ (x d : List ℕ) (h : record_max ≤ length x) where
   enough : (k : ℕ) → k ≤ record_max → (leb k (length (x ++ d)) ≡ true) × (leb k (length x) ≡ true)
@@ -90,8 +95,8 @@ module _ (x d : List ℕ) (h : record_max ≤ length x) where
       ∙ take-append-le n (drop 4 x) d (simp length-drop (omega arith))
 
   ram-at : (n : ℕ) (t : Bool) → both (leb 1 n) (leb n ram_max) ≡ t
-      → pick t (needs (4 + n) (x ++ d) (pick (all_kinds (take n (drop 4 (x ++ d)))) (Good (Ram n) (4 + n)) Bad)) Bad
-      ≡ pick t (needs (4 + n) x (pick (all_kinds (take n (drop 4 x))) (Good (Ram n) (4 + n)) Bad)) Bad
+      → pick t (needs (4 + n) (x ++ d) (pick (all_kinds (take n (drop 4 (x ++ d)))) (Ok (Some (Ram n, 4 + n))) bad)) bad
+      ≡ pick t (needs (4 + n) x (pick (all_kinds (take n (drop 4 x))) (Ok (Some (Ram n, 4 + n))) bad)) bad
   ram-at n false e = refl
   ram-at n true e =
       let g = leb-true n ram_max (both_right (leb 1 n) (leb n ram_max) e) in

@@ -8,14 +8,13 @@
 
 ghost use Rattle.std.specs.Prelude.{◌≡◌, true, ◌∷◌, [], ◌+◌, ◌≤◌, ◌<◌, length};
 ghost use Rattle.records.specs.declared.Event.TheVariants.{Moved};
-ghost use Rattle.records.specs.Records.{half_end, u16_at, u32_at, has_mark, engine_of};
-ghost use Rattle.records.specs.Records.{decode_ram, decode_write, decode_kind, decode_frame, decode_steps, decode_later, decode};
+ghost use Rattle.records.specs.Records.{found, engine_of, decode_ram, decode_write, decode_kind, decode_frame, decode_steps, decode_later, decode};
 ghost use Rattle.records.specs.Lines.{blank, digits_max, decimal, hex_digit, hex_digits, hex8, tail_with};
 ghost use Rattle.records.specs.Lines.{line_with, line_of, sent_line, bad_line, line_max, Prints};
 
 use blocks::kinds_fit;
 use layout::{BLOCKS_MAX, CHANNELS};
-use phases::{Burst, Engine};
+use phases::{Burst, Engine, engine_at};
 
 // One record of a bench file. The kinds of a `Ram` record stand behind its four bytes of mark and N.
 #[derive(Drop)]
@@ -27,13 +26,9 @@ pub enum Record {
     Steps(Engine, u8),
 }
 
-// What stands next in a bench file: nothing, a record with its size in bytes, or something that is no record.
-#[derive(Drop)]
-pub enum Decoded {
-    End,
-    Good(Record, usize),
-    Bad,
-}
+// Something that is no record: an unknown mark, a record that is cut, or a part that is unfit.
+#[derive(Clone, Copy, Debug, PartialEq, Eq)]
+pub struct BadRecord;
 
 // What happened: a guest write, a kind change and a frame, each with its answer; a step, with the burst that it made.
 #[derive(Drop)]
@@ -51,8 +46,6 @@ pub const RAM_MAX: usize = BLOCKS_MAX;
 pub const RECORD_MAX: usize = RAM_HEAD + RAM_MAX;
 
 // The sizes of the records, with their marks; an `RM` record is its head and N kinds.
-const MARK: usize = 2;
-
 const RAM_HEAD: usize = 4;
 
 const WRITE: usize = 10;
@@ -63,206 +56,117 @@ const FRAME: usize = 4;
 
 const STEPS: usize = 4;
 
-// Where their second parts stand. The first stands behind the mark.
-const VALUE_AT: usize = 6;
-
-const KIND_AT: usize = 4;
-
-const COUNT_AT: usize = 3;
-
 // How many engines a channel has, with their teardowns, and the highest number of one. The reset is number 0.
 const ENGINES: u8 = 4;
 
 const ENGINE_MAX: u8 = ENGINES * CHANNELS as u8;
 
-// How many values a byte has, and how many two.
-const BYTE: u16 = 0x100;
-
-const HALF: u32 = 0x1_0000;
-
-fn wide(x: u8) -> u16
-    ensures { (result ≡ x) × (result < 256) }
-{
-    x as u16
-}
-
-// The number of 16 bits at an offset.
-fn number16(bs: &[u8], at: usize) -> u16
-    requires { at + 2 ≤ length bs.now }
-    ensures { result ≡ u16_at bs.now at }
-{
-    wide(bs[at]) + wide(bs[at + 1]) * BYTE
-}
-
-fn wider(x: u16) -> u32
-    ensures { (result ≡ x) × (result < half_end) }
-{
-    x as u32
-}
-
-// The number of 32 bits at an offset.
-fn number32(bs: &[u8], at: usize) -> u32
-    requires { at + 4 ≤ length bs.now }
-    ensures { result ≡ u32_at bs.now at }
-{
-    wider(number16(bs, at)) + wider(number16(bs, at + 2)) * HALF
-}
-
-// Whether these two letters are the mark.
-fn is_marked(bs: &[u8], a: u8, b: u8) -> bool
-    requires { 2 ≤ length bs.now }
-    ensures { result ≡ has_mark a b bs.now }
-{
-    if bs[0] != a {
-        return false;
-    }
-    bs[1] == b
-}
-
 // An `RM` record: that there are kinds, and each of them, is asked together.
-fn decode_ram(bs: &[u8]) -> Decoded
-    ensures { result ≡ decode_ram bs.now }
+fn decode_ram(bs: &[u8]) -> Result<(Record, usize), BadRecord>
+    ensures { found result ≡ decode_ram bs.now }
 {
-    if bs.len() < RAM_HEAD {
-        return Decoded::Bad;
-    }
-    let n = wider(number16(bs, MARK));
-    let blocks = n as usize;
+    let [_, _, low, high, rest @ ..] = bs else {
+        return Err(BadRecord);
+    };
+    let n = u16::from_le_bytes([*low, *high]);
+    let blocks = usize::from(n);
     if RAM_MAX < blocks {
-        return Decoded::Bad;
+        return Err(BadRecord);
     }
-    let size = RAM_HEAD + blocks;
-    if bs.len() < size {
-        return Decoded::Bad;
+    let Some(kinds) = rest.get(..blocks) else {
+        return Err(BadRecord);
+    };
+    if !kinds_fit(kinds) {
+        return Err(BadRecord);
     }
-    if !kinds_fit(&bs[RAM_HEAD..size]) {
-        return Decoded::Bad;
-    }
-    let record = Record::Ram(n);
-    Decoded::Good(record, size)
+    Ok((Record::Ram(u32::from(n)), RAM_HEAD + blocks))
 }
 
-fn decode_write(bs: &[u8]) -> Decoded
-    ensures { result ≡ decode_write bs.now }
+fn decode_write(bs: &[u8]) -> Result<(Record, usize), BadRecord>
+    ensures { found result ≡ decode_write bs.now }
 {
-    if bs.len() < WRITE {
-        return Decoded::Bad;
-    }
-    let a = number32(bs, MARK);
-    let v = number32(bs, VALUE_AT);
-    let record = Record::Write(a, v);
-    Decoded::Good(record, WRITE)
+    let &[_, _, a0, a1, a2, a3, v0, v1, v2, v3, ..] = bs else {
+        return Err(BadRecord);
+    };
+    let a = u32::from_le_bytes([a0, a1, a2, a3]);
+    let v = u32::from_le_bytes([v0, v1, v2, v3]);
+    Ok((Record::Write(a, v), WRITE))
 }
 
-fn decode_kind(bs: &[u8]) -> Decoded
-    ensures { result ≡ decode_kind bs.now }
+fn decode_kind(bs: &[u8]) -> Result<(Record, usize), BadRecord>
+    ensures { found result ≡ decode_kind bs.now }
 {
-    if bs.len() < KIND {
-        return Decoded::Bad;
-    }
-    let b = wider(number16(bs, MARK));
-    let kind = bs[KIND_AT];
-    let record = Record::Kind(b, kind);
-    Decoded::Good(record, KIND)
+    let &[_, _, low, high, kind, ..] = bs else {
+        return Err(BadRecord);
+    };
+    let b = u16::from_le_bytes([low, high]);
+    Ok((Record::Kind(u32::from(b), kind), KIND))
 }
 
-fn decode_frame(bs: &[u8]) -> Decoded
-    ensures { result ≡ decode_frame bs.now }
+fn decode_frame(bs: &[u8]) -> Result<(Record, usize), BadRecord>
+    ensures { found result ≡ decode_frame bs.now }
 {
-    if bs.len() < FRAME {
-        return Decoded::Bad;
-    }
-    let n = number16(bs, MARK);
-    let record = Record::Frame(n);
-    Decoded::Good(record, FRAME)
+    let &[_, _, low, high, ..] = bs else {
+        return Err(BadRecord);
+    };
+    Ok((Record::Frame(u16::from_le_bytes([low, high])), FRAME))
 }
 
 // The engine of a number: the reset, then for each channel the two engines and their teardowns.
 fn engine_of(e: u8) -> Engine
     ensures { result ≡ engine_of e }
 {
-    if e == 0 {
-        return Engine::Reset;
+    match e.checked_sub(1) {
+        None => Engine::Reset,
+        Some(k) => engine_at(k % ENGINES + 1, k / ENGINES),
     }
-    let channel = (e - 1) / ENGINES;
-    let which = (e - 1) % ENGINES;
-    if which == 0 {
-        return Engine::Transmit(channel);
-    }
-    if which == 1 {
-        return Engine::Receive(channel);
-    }
-    if which == 2 {
-        return Engine::TearTransmit(channel);
-    }
-    Engine::TearReceive(channel)
 }
 
-fn decode_steps(bs: &[u8]) -> Decoded
-    ensures { result ≡ decode_steps bs.now }
+fn decode_steps(bs: &[u8]) -> Result<(Record, usize), BadRecord>
+    ensures { found result ≡ decode_steps bs.now }
 {
-    if bs.len() < STEPS {
-        return Decoded::Bad;
+    let &[_, _, e, count, ..] = bs else {
+        return Err(BadRecord);
+    };
+    if ENGINE_MAX < e || count < 1 {
+        return Err(BadRecord);
     }
-    let e = bs[MARK];
-    let count = bs[COUNT_AT];
-    if ENGINE_MAX < e {
-        return Decoded::Bad;
-    }
-    if count < 1 {
-        return Decoded::Bad;
-    }
-    let engine = engine_of(e);
-    let record = Record::Steps(engine, count);
-    Decoded::Good(record, STEPS)
+    Ok((Record::Steps(engine_of(e), count), STEPS))
 }
 
 // A record that is not the first.
-fn decode_later(bs: &[u8]) -> Decoded
-    requires { 2 ≤ length bs.now }
-    ensures { result ≡ decode_later bs.now }
+fn decode_later(bs: &[u8]) -> Result<(Record, usize), BadRecord>
+    ensures { found result ≡ decode_later bs.now }
 {
-    if is_marked(bs, b'G', b'W') {
-        return decode_write(bs);
+    match bs {
+        [b'G', b'W', ..] => decode_write(bs),
+        [b'K', b'C', ..] => decode_kind(bs),
+        [b'F', b'R', ..] => decode_frame(bs),
+        [b'S', b'T', ..] => decode_steps(bs),
+        _ => Err(BadRecord),
     }
-    if is_marked(bs, b'K', b'C') {
-        return decode_kind(bs);
-    }
-    if is_marked(bs, b'F', b'R') {
-        return decode_frame(bs);
-    }
-    if is_marked(bs, b'S', b'T') {
-        return decode_steps(bs);
-    }
-    Decoded::Bad
 }
 
-fn decode_first(bs: &[u8]) -> Decoded
-    ensures { result ≡ decode true bs.now }
+fn decode_first(bs: &[u8]) -> Result<(Record, usize), BadRecord>
+    ensures { found result ≡ decode true bs.now }
 {
-    if bs.len() < MARK {
-        return Decoded::Bad;
-    }
-    if !is_marked(bs, b'R', b'M') {
-        return Decoded::Bad;
-    }
+    let [b'R', b'M', ..] = bs else {
+        return Err(BadRecord);
+    };
     decode_ram(bs)
 }
 
-// What the bytes that are left begin with. `first`: no record has been read yet.
-pub fn decode_record(bs: &[u8], first: bool) -> Decoded
+// What the bytes that are left begin with, with its size: no record where nothing is left. `first`: no record has been read yet.
+pub fn decode_record(bs: &[u8], first: bool) -> Result<Option<(Record, usize)>, BadRecord>
     ensures { result ≡ decode first bs.now }
 {
     if first {
-        return decode_first(bs);
+        return decode_first(bs).map(Some);
     }
-    if bs.len() == 0 {
-        return Decoded::End;
+    if bs.is_empty() {
+        return Ok(None);
     }
-    if bs.len() < MARK {
-        return Decoded::Bad;
-    }
-    decode_later(bs)
+    decode_later(bs).map(Some)
 }
 
 const HEX_DIGITS: usize = 8;

@@ -3,17 +3,15 @@
 --     record_of r s            one record on a machine: what happened, and the machine afterwards
 --     replay bs               all that is printed for the input bs
 -- Assumes nothing: these are definitions.
-use Rattle.std.specs.Prelude.{ℕ, zero, suc, ◌+◌, true, false, List, [], ◌∷◌, ◌++◌, length, take, drop}
+use Rattle.std.specs.Prelude.{ℕ, zero, suc, ◌+◌, true, false, List, [], ◌∷◌, ◌++◌, length, take, drop, Ok, Err, Some, None}
 use Rattle.guard.specs.Answers.{number_of}
 use Rattle.phases.specs.declared.Engine.{Engine}
 use Rattle.machine.specs.Machine.{Machine, write, kind, frame, step, apply, fresh_machine}
 use Rattle.records.specs.declared.Record.{Record}
 use Rattle.records.specs.declared.Record.TheVariants.{Ram, Write, Kind, Frame, Steps}
-use Rattle.records.specs.declared.Decoded.{Decoded}
-use Rattle.records.specs.declared.Decoded.TheVariants.{End, Good, Bad}
 use Rattle.records.specs.declared.Event.{Event}
 use Rattle.records.specs.declared.Event.TheVariants.{Wrote, Changed, Framed, Moved}
-use Rattle.records.specs.Records.{decode}
+use Rattle.records.specs.Records.{Decoded, decode}
 use Rattle.records.specs.Lines.{lines_of, sent_line, bad_line}
 
 abbrev pub Played : Type 0
@@ -37,9 +35,9 @@ record_of (Steps e c) s = steps_of e c s
 
 -- what is printed from offset o on, where a record was decoded; rest prints what follows it
 abbrev pub replay_at : ℕ → Machine → List ℕ → (ℕ → Machine → List ℕ → List ℕ) → Decoded → List ℕ
-replay_at o s bs rest End = sent_line s.ctl.sent s.ctl.received
-replay_at o s bs rest Bad = bad_line o
-replay_at o s bs rest (Good r n) = let p = record_of r s in lines_of p.0 ++ rest (o + n) p.1 (drop n bs)
+replay_at o s bs rest (Ok None) = sent_line s.ctl.sent s.ctl.received
+replay_at o s bs rest (Err e) = bad_line o
+replay_at o s bs rest (Ok (Some (r, n))) = let p = record_of r s in lines_of p.0 ++ rest (o + n) p.1 (drop n bs)
 
 -- the records from offset o on: at most k of them
 abbrev pub replay_for : ℕ → ℕ → Machine → List ℕ → List ℕ
@@ -47,14 +45,14 @@ replay_for zero o s bs = []
 replay_for (suc k) o s bs = replay_at o s bs (λ p t cs. replay_for k p t cs) (decode false bs)
 
 abbrev pub replay_first : List ℕ → Decoded → List ℕ
-replay_first bs End = bad_line 0
-replay_first bs Bad = bad_line 0
-replay_first bs (Good (Ram n) size) =
+replay_first bs (Ok None) = bad_line 0
+replay_first bs (Err e) = bad_line 0
+replay_first bs (Ok (Some (Ram n, size))) =
     replay_for (suc (length bs)) size (fresh_machine (take n (drop 4 bs))) (drop size bs)
-replay_first bs (Good (Write a v) size) = bad_line 0
-replay_first bs (Good (Kind b k) size) = bad_line 0
-replay_first bs (Good (Frame n) size) = bad_line 0
-replay_first bs (Good (Steps e c) size) = bad_line 0
+replay_first bs (Ok (Some (Write a v, size))) = bad_line 0
+replay_first bs (Ok (Some (Kind b k, size))) = bad_line 0
+replay_first bs (Ok (Some (Frame n, size))) = bad_line 0
+replay_first bs (Ok (Some (Steps e c, size))) = bad_line 0
 
 unfoldable pub replay : List ℕ → List ℕ
 replay bs = replay_first bs (decode true bs)

@@ -1,20 +1,17 @@
 -- `records::decode_first`: an `RM` record or nothing. Assumes nothing.
-use mathlib.Core.Path.{sym, ◌∙◌}
-use borrow.Author.Tests.{le-leb, lt-leb}
-use Rattle.records.specs.Records.{decode}
+use mathlib.Core.Path.{◌∙◌}
+use native.Mathlib.Omega.{arith}
+use Rattle.records.proofs.RecordLaws.{first-ram, first-bad}
 use Rattle.records.proofs.decode_first.Goals as goal
 
-pub returns-then-bs-lt-MARK : goal.returns-then-bs-lt-MARK
-unfolding decode
-returns-then-bs-lt-MARK c = simp (lt-leb 2 _ c.if-bs-lt-MARK.true)
+pub returns-in_default : goal.returns-in_default
+returns-in_default c = first-bad _ (λ h e f. omega arith)
 
-pub returns-then-not-is_marked : goal.returns-then-not-is_marked
-unfolding decode
-returns-then-not-is_marked c = simp (le-leb 2 _ c.if-bs-lt-MARK.false, sym c.is_marked.ensures ∙ c.if-not-is_marked.true)
+pub returns-in_default-2 : goal.returns-in_default-2
+returns-in_default-2 c = first-bad _ (λ h e f. omega arith)
+
+pub returns-in_default-3 : goal.returns-in_default-3
+returns-in_default-3 c = first-bad _ (λ h e f. omega arith)
 
 pub returns : goal.returns
-unfolding decode
-returns c = simp (
-  le-leb 2 _ c.if-bs-lt-MARK.false,
-  sym c.is_marked.ensures ∙ c.if-not-is_marked.false,
-) c.decode_ram.ensures
+returns c = c.decode_ram.ensures ∙ first-ram _ (omega arith) (omega arith) (omega arith)

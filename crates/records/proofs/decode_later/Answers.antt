@@ -1,47 +1,36 @@
--- `records::decode_later`: the marks are asked in the order of the definition. Assumes nothing.
-use mathlib.Core.Path.{sym, ◌∙◌}
-use Rattle.records.specs.Records.{decode_later}
+-- `records::decode_later` goes by the mark. Assumes nothing.
+use mathlib.Core.Path.{◌∙◌}
+use native.Mathlib.Omega.{arith}
+use Rattle.records.proofs.RecordLaws.{later-write, later-kind, later-frame, later-steps, later-bad, later-short}
 use Rattle.records.proofs.decode_later.Goals as goal
 
-pub returns-then-is_marked : goal.returns-then-is_marked
-unfolding decode_later
-returns-then-is_marked c = simp (sym c.is_marked.ensures ∙ c.if-is_marked.true) c.decode_write.ensures
+pub returns-in-71 : goal.returns-in-71
+returns-in-71 c = c.decode_write.ensures ∙ later-write _ (omega arith) (omega arith)
 
-pub returns-then-is_marked-2 : goal.returns-then-is_marked-2
-unfolding decode_later
-returns-then-is_marked-2 c = simp (
-  sym c.is_marked.ensures ∙ c.if-is_marked.false,
-  sym c.is_marked-2.ensures ∙ c.if-is_marked-2.true,
-) c.decode_kind.ensures
+pub returns-in-75 : goal.returns-in-75
+returns-in-75 c = c.decode_kind.ensures ∙ later-kind _ (omega arith) (omega arith)
 
-pub returns-then-is_marked-3 : goal.returns-then-is_marked-3
-unfolding decode_later
-returns-then-is_marked-3 c = simp (
-  sym c.is_marked.ensures
-      ∙ c.if-is_marked.false,
-  sym c.is_marked-2.ensures
-      ∙ c.if-is_marked-2.false,
-  sym c.is_marked-3.ensures ∙ c.if-is_marked-3.true,
-)
-    c.decode_frame.ensures
+pub returns-in-70 : goal.returns-in-70
+returns-in-70 c = c.decode_frame.ensures ∙ later-frame _ (omega arith) (omega arith)
 
-pub returns-then-is_marked-4 : goal.returns-then-is_marked-4
-unfolding decode_later
-returns-then-is_marked-4 c = simp (
-  sym c.is_marked.ensures
-      ∙ c.if-is_marked.false,
-  sym c.is_marked-2.ensures ∙ c.if-is_marked-2.false,
-  sym c.is_marked-3.ensures ∙ c.if-is_marked-3.false,
-  sym c.is_marked-4.ensures ∙ c.if-is_marked-4.true,
-) c.decode_steps.ensures
+pub returns-in-83 : goal.returns-in-83
+returns-in-83 c = c.decode_steps.ensures ∙ later-steps _ (omega arith) (omega arith)
 
-pub returns : goal.returns
-unfolding decode_later
-returns c = simp (
-  sym c.is_marked.ensures
-      ∙ c.if-is_marked.false,
-  sym c.is_marked-2.ensures
-      ∙ c.if-is_marked-2.false,
-  sym c.is_marked-3.ensures ∙ c.if-is_marked-3.false,
-  sym c.is_marked-4.ensures ∙ c.if-is_marked-4.false,
-)
+pub returns-in_default : goal.returns-in_default
+returns-in_default c = later-short _ c.in_default.len_below
+
+pub returns-in_default-2 : goal.returns-in_default-2
+returns-in_default-2 c = later-bad _ (λ e f. omega arith) (λ e f. omega arith) (λ e f. omega arith) (λ e f. omega arith)
+
+pub returns-in_default-3 : goal.returns-in_default-3
+returns-in_default-3 c = later-bad _ (λ e f. omega arith) (λ e f. omega arith) (λ e f. omega arith) (λ e f. omega arith)
+
+pub returns-in_default-4 : goal.returns-in_default-4
+returns-in_default-4 c = later-bad _ (λ e f. omega arith) (λ e f. omega arith) (λ e f. omega arith) (λ e f. omega arith)
+
+pub returns-in_default-5 : goal.returns-in_default-5
+returns-in_default-5 c = later-bad _ (λ e f. omega arith) (λ e f. omega arith) (λ e f. omega arith) (λ e f. omega arith)
+
+pub returns-in_default-6 : goal.returns-in_default-6
+returns-in_default-6 c = later-bad _ (λ e f. omega arith) (λ e f. omega arith) (λ e f. omega arith) (λ e f. omega arith)
+

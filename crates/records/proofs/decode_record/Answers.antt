@@ -1,21 +1,15 @@
 -- `records::decode_record`: the tests of the definition, in its order. Assumes nothing.
-use borrow.Author.Tests.{eq-eqb, ne_eqb, le-leb, lt-leb}
+use mathlib.Core.Path.{sym}
+use native.Mathlib.Omega.{arith}
+use borrow.Author.Tests.{true-eqb, false-eqb}
+use Rattle.std.proofs.Common.{rules}
 use Rattle.records.specs.Records.{decode}
+use Rattle.records.proofs.RecordLaws.{later-is}
 use Rattle.records.proofs.decode_record.Goals as goal
 
-pub returns-then-first : goal.returns-then-first
+pub returns-then-is_empty : goal.returns-then-is_empty
 unfolding decode
-returns-then-first c = simp c.if-first.true c.decode_first.ensures
-
-pub returns-then-bs-eq0 : goal.returns-then-bs-eq0
-unfolding decode
-returns-then-bs-eq0 c = simp (c.if-first.false, eq-eqb _ _ c.if-bs-eq0.true)
-
-pub returns-then-bs-lt-MARK : goal.returns-then-bs-lt-MARK
-unfolding decode
-returns-then-bs-lt-MARK c = simp (c.if-first.false, ne_eqb _ _ c.if-bs-eq0.false, lt-leb 2 _ c.if-bs-lt-MARK.true)
+returns-then-is_empty c = simp (c.if-first.false, sym c.is_empty.ensures, c.if-is_empty.true)
 
 pub returns : goal.returns
-unfolding decode
-returns c = simp (c.if-first.false, ne_eqb _ _ c.if-bs-eq0.false, le-leb 2 _ c.if-bs-lt-MARK.false)
-    c.decode_later.ensures
+returns c = rw (c.if-first.false, sym (later-is c.args.bs.now (false-eqb _ _ c.if-is_empty.ensures))) (search rules)

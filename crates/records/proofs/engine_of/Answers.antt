@@ -1,34 +1,17 @@
 -- `records::engine_of` goes by the number. Assumes nothing.
+use Prim.Native.Nat.{ℕ, ◌+◌, ◌/◌, ◌%◌}
+use mathlib.Core.Path.{ap, ◌∙◌}
+use native.Mathlib.Omega.{arith}
 use borrow.Author.Tests.{eq-eqb, ne_eqb}
+use Rattle.phases.specs.Engines.{engine_at}
 use Rattle.records.specs.Records.{engine_of}
 use Rattle.records.proofs.engine_of.Goals as goal
 
-pub returns-then-e-eq0 : goal.returns-then-e-eq0
+pub returns-in-None : goal.returns-in-None
 unfolding engine_of
-returns-then-e-eq0 c = simp (eq-eqb _ _ c.if-e-eq0.true)
+returns-in-None c = simp (eq-eqb c.args.e 0 (omega arith))
 
-pub returns-then-which-eq0 : goal.returns-then-which-eq0
+pub returns-in-Some : goal.returns-in-Some
 unfolding engine_of
-returns-then-which-eq0 c = simp (ne_eqb _ _ c.if-e-eq0.false, eq-eqb _ _ c.if-which-eq0.true)
-
-pub returns-then-which-eq1 : goal.returns-then-which-eq1
-unfolding engine_of
-returns-then-which-eq1 c = simp (ne_eqb _ _ c.if-e-eq0.false, ne_eqb _ _ c.if-which-eq0.false, eq-eqb _ _ c.if-which-eq1.true)
-
-pub returns-then-which-eq2 : goal.returns-then-which-eq2
-unfolding engine_of
-returns-then-which-eq2 c = simp (
-  ne_eqb _ _ c.if-e-eq0.false,
-  ne_eqb _ _ c.if-which-eq0.false,
-  ne_eqb _ _ c.if-which-eq1.false,
-  eq-eqb _ _ c.if-which-eq2.true,
-)
-
-pub returns : goal.returns
-unfolding engine_of
-returns c = simp (
-  ne_eqb _ _ c.if-e-eq0.false,
-  ne_eqb _ _ c.if-which-eq0.false,
-  ne_eqb _ _ c.if-which-eq1.false,
-  ne_eqb _ _ c.if-which-eq2.false,
-)
+returns-in-Some c = simp (ne_eqb c.args.e 0 (λ e. omega arith))
+    (c.engine_at.ensures ∙ ap (λ (k : ℕ). engine_at (k % 4 + 1) (k / 4)) c.in-Some.ensures.1)
