@@ -12,15 +12,14 @@ use native.Mathlib.Omega.{arith}
 use lib.ListN.{length, take, drop, length-drop, length-append}
 use lib.Dec.{leb}
 use borrow.Author.Tests.{leb-true}
+use Rattle.std.proofs.Common.{Ok, Err, Option, None, Some}
 use Rattle.layout.specs.Choice.{pick}
 use Rattle.layout.proofs.ChoiceLaws.{clash}
 use Rattle.controller.specs.declared.Controller.{Controller}
 use Rattle.machine.specs.Machine.{Machine}
 use Rattle.machine.specs.After.{machine_at}
 use Rattle.records.specs.declared.Record.{Record}
-use Rattle.records.specs.declared.Decoded.{Decoded}
-use Rattle.records.specs.declared.Decoded.TheVariants.{End, Good, Bad}
-use Rattle.records.specs.Records.{record_max, decode}
+use Rattle.records.specs.Records.{Decoded, bad, record_max, decode}
 use Rattle.records.specs.Lines.{line_max, lines_of, sent_line, bad_line, Prints}
 use Rattle.records.proofs.SizeLaws.{decode-sized}
 use Rattle.records.proofs.PrintLaws.{length-prints, take-prints}
@@ -44,16 +43,19 @@ line-ends {x} {y} {i} {j} {l} p h k =
     record { room = line-room p h k; bytes = take-prints p e }
 
 size-decoded : (bs : List ℕ) (d : Decoded) → d ≡ decode false bs → size_of d ≤ length bs
-size-decoded bs End e = omega arith
-size-decoded bs (Good r n) e = (decode-sized bs false r n (sym e)).1
-size-decoded bs Bad e = omega arith
+size-decoded bs (Ok None) e = omega arith
+size-decoded bs (Ok (Some (r, n))) e = (decode-sized bs false r n (sym e)).1
+size-decoded bs (Err f) e = omega arith
 
 pub decoded-fits : (w : Window) (x : List ℕ) (d : Decoded) → Inside w x → d ≡ decode false (window_of w x)
     → w.from + size_of d ≤ w.len
 decoded-fits w x d h e = omega (arith, h.order, length-window w x h, size-decoded (window_of w x) d e)
 
-pub good-fits : (w : Window) {d : Decoded} {r : Record} {n : ℕ} → d ≡ Good r n → w.from + size_of d ≤ w.len → w.from + n ≤ w.len
+pub good-fits : (w : Window) {d : Decoded} {r : Record} {n : ℕ} → d ≡ Ok (Some (r, n)) → w.from + size_of d ≤ w.len → w.from + n ≤ w.len
 good-fits w e h = subst (λ (k : ℕ). w.from + k ≤ w.len) (ap size_of e) h
+
+pub decoded-is : {d : Decoded} {o p : Option (Record × ℕ)} → d ≡ Ok o → o ≡ p → d ≡ Ok p
+decoded-is e f = e ∙ ap (λ (o : Option (Record × ℕ)). Ok o) f
 
 -- ---- what was decoded
 
@@ -81,20 +83,20 @@ module _ (d : Decoded) (w : Window) (c : Controller) (at o : ℕ) (m k t u l y :
         );
       })
 
-  pub acted-end : (y' : List ℕ) (end : ℕ) (r : Run) → d ≡ End → r ≡ run_at c end w o false → Ends y at (sent_line c.sent
+  pub acted-end : (y' : List ℕ) (end : ℕ) (r : Run) → d ≡ Ok None → r ≡ run_at c end w o false → Ends y at (sent_line c.sent
       c.received) y' end
       → Acted d w c at o m k t u l y r m k t u l y'
   acted-end y' end r e f z =
       acted-stop (sent_line c.sent c.received) y' end r f z
       (λ read wrote x h q g. lines_end read wrote (take at y) o before (window_of w x) w.ended h g (sym q ∙ e))
 
-  pub acted-bad : (y' : List ℕ) (end : ℕ) (r : Run) → d ≡ Bad → r ≡ run_at c end w o false → Ends y at (bad_line o) y' end
+  pub acted-bad : (y' : List ℕ) (end : ℕ) (r : Run) → d ≡ bad → r ≡ run_at c end w o false → Ends y at (bad_line o) y' end
       → Acted d w c at o m k t u l y r m k t u l y'
   acted-bad y' end r e f z =
       acted-stop (bad_line o) y' end r f z
       (λ read wrote x h q g. lines-bad read wrote (take at y) o before (window_of w x) w.ended h g (sym q ∙ e))
 
-  module _ (v : Record) (n : ℕ) (e : d ≡ Good v n) (p : Played) (m' k' t' u' l' y' : List ℕ) (r : Run)
+  module _ (v : Record) (n : ℕ) (e : d ≡ Ok (Some (v, n))) (p : Played) (m' k' t' u' l' y' : List ℕ) (r : Run)
       (b : Plays (record_of v (machine_at c m k t u l)) p m' k' t' u' l' y at y') (a : Went p w n o r) (room : p.end ≤ length y) where
     after_is : (record_of v before).1 ≡ machine_at r.ctl m' k' t' u' l'
     after_is = sym (λ i. machine_at ((a.ctl ∙ b.ctl) i) (b.mem i) (b.kinds i) (b.state i) (b.used i) (b.lens i))
@@ -118,7 +120,7 @@ module _ (d : Decoded) (w : Window) (c : Controller) (at o : ℕ) (m k t u l y :
         → o < r.offset)
     good-stands read wrote x h q g f =
         let bs = window_of w x in
-        let q' : decode false bs ≡ Good v n = sym q ∙ e in
+        let q' : decode false bs ≡ Ok (Some (v, n)) = sym q ∙ e in
         let z = decode-sized bs false v n q' in
         let i = good-offset read wrote x h z.1 f in
         let place : o + length bs ≡ length read = f.place in

@@ -8,20 +8,20 @@
 
 #![tactic(auto)]
 
-ghost use Rattle.std.specs.Prelude.{◌≡◌, true, ◌+◌, ◌≤◌, ◌<◌, length};
-ghost use Rattle.std.specs.Prelude.{IfOk, OnOk, OnErr, IfSome};
+ghost use Rattle.std.specs.Prelude.{◌≡◌, true, ◌+◌, ◌≤◌, ◌<◌, length, take, drop, Some, None};
+ghost use Rattle.std.specs.Prelude.{IfOk, OnOk, OnErr, IfSome, MatchOption};
 ghost use Rattle.std.specs.Io.KnownBytes.{Appends};
-ghost use Rattle.records.specs.Records.{ram_max, record_max};
+ghost use Rattle.records.specs.Records.{ram_max, record_max, decode};
 ghost use Rattle.replay.specs.Replay.{replay};
 ghost use Rattle.window.specs.Window.{window_of, Inside};
 ghost use Rattle.player.specs.Stands.{Enough, Holds, offset_end};
-ghost use Rattle.player.specs.Turns.{gathered_max, room_min, kept_at, flushed, size_of, Fresh};
+ghost use Rattle.player.specs.Turns.{gathered_max, room_min, kept_at, flushed, size_of, kinds_in, Fresh};
 ghost use Rattle.player.specs.Turns.{Acted, Turned, Reached, Printed, Replayed, Untouched, Broken};
 ghost use Rattle.player.specs.Streams.{shown, TurnedOn, ReachedOn, PrintedOn};
 
 use controller::Controller;
 use layout::{DESC_BYTES, DESC_WORDS, Lengths, Memory, Words};
-use records::{Decoded, RAM_MAX, RECORD_MAX, Record, decode_record, put_bad};
+use records::{BadRecord, RAM_MAX, RECORD_MAX, Record, decode_record, put_bad};
 use registers::{STATE, State};
 use replay::{play, put_totals};
 use std::io;
@@ -92,7 +92,7 @@ fn flush<W: Write>(to: &mut W, out: &[u8], at: usize) -> io::Result<usize>
 // then the machine stands as it stood.
 fn act<W: Write>(
     to: &mut W,
-    d: Decoded,
+    d: Result<Option<(Record, usize)>, BadRecord>,
     s: Run,
     tables: &mut Tables,
     kinds: &mut [u8],
@@ -108,7 +108,7 @@ fn act<W: Write>(
         tables.new.mem kinds.new tables.new.state tables.new.used tables.new.lens) }
 {
     let end = match d {
-        Decoded::Good(record, n) => {
+        Ok(Some((record, n))) => {
             let played = play(
                 record,
                 s.ctl,
@@ -128,8 +128,8 @@ fn act<W: Write>(
                 going: true,
             });
         }
-        Decoded::End => put_totals(s.ctl, out, s.at),
-        Decoded::Bad => put_bad(out, s.at, s.offset),
+        Ok(None) => put_totals(s.ctl, out, s.at),
+        Err(BadRecord) => put_bad(out, s.at, s.offset),
     };
     to.write_all(&out[..end])?;
     Ok(Run {
@@ -201,6 +201,17 @@ fn replay_rest<R: Read, W: Write>(
     Ok(s)
 }
 
+// The kinds of the first record, where the input begins with one.
+fn first_kinds(bs: &[u8]) -> Option<&[u8]>
+    ensures count { MatchOption result (kinds_in (decode true bs.now) ≡ None) (λ ks. kinds_in (decode true bs.now) ≡ Some (length ks.now)) }
+    ensures kinds { IfSome result (λ ks. ks.now ≡ take (length ks.now) (drop 4 bs.now)) }
+{
+    match decode_record(bs, true) {
+        Ok(Some((Record::Ram(_), size))) => Some(&bs[KINDS_AT..size]),
+        _ => None,
+    }
+}
+
 // The whole input, whose first bytes stand in the window, on the tables of a fresh machine. Where a read or a write fails, nothing is
 // known of what the two buffers hold.
 fn play_input<R: Read, W: Write>(
@@ -220,7 +231,7 @@ fn play_input<R: Read, W: Write>(
         w.ended (window_of w input.old) r out.new) }
     ensures failed { OnErr result ((length input.new ≡ length input.old) × (length out.new ≡ length out.old)) }
 {
-    let Decoded::Good(Record::Ram(n), size) = decode_record(w.bytes(input), true) else {
+    let Some(listed) = first_kinds(w.bytes(input)) else {
         let end = put_bad(out, 0, 0);
         to.write_all(&out[..end])?;
         return Ok(Last {
@@ -228,8 +239,9 @@ fn play_input<R: Read, W: Write>(
             ended: w.ended,
         });
     };
-    let kinds = &mut kinds[..n as usize];
-    kinds.copy_from_slice(&w.bytes(input)[KINDS_AT..size]);
+    let kinds = &mut kinds[..listed.len()];
+    kinds.copy_from_slice(listed);
+    let size = KINDS_AT + listed.len();
     let first = Run {
         ctl: controller::fresh(),
         at: 0,
