@@ -7,16 +7,13 @@
 use Prim.Native.Nat.{ℕ, suc, ◌+◌, ◌-◌, ◌≤◌, ◌<◌}
 use mathlib.Core.Path.{◌≡◌, refl, ap, ◌∙◌, sym, subst}
 use mathlib.Core.Bool.{Bool, true, false}
-use mathlib.Core.Logic.{◌≢◌}
 use mathlib.Core.List.{List, [], ◌++◌, append-nil}
-use native.Mathlib.Nat.{zero-add}
-use native.Mathlib.Numerals.{add-one}
 use native.Mathlib.Omega.{arith}
-use lib.ListN.{length, get_or, set, take, drop, length-drop, length-append}
-use lib.Seq.{paste, paste-suc, take-paste, get_or-drop, drop-drop, take-take, length-take-le, take-append-le, drop-append-le}
+use lib.ListN.{length, take, drop, length-drop, length-append}
+use lib.Seq.{length-take-le, take-append-le, drop-append-le}
 use lib.Dec.{leb}
 use borrow.Author.Tests.{leb-true}
-use Rattle.std.proofs.Common.{Ok, Err, Option, None, Some}
+use Rattle.std.proofs.Common.{Ok, Err, None, Some}
 use Rattle.layout.specs.Choice.{pick, both}
 use Rattle.layout.proofs.ChoiceLaws.{both_left, both_right}
 use Rattle.blocks.specs.Kinds.{all_kinds}
@@ -32,9 +29,8 @@ use Rattle.records.proofs.SizeLaws.{same_found}
 use Rattle.replay.specs.Replay.{replay_for, replay_first, replay}
 use Rattle.window.specs.declared.Window.{Window}
 use Rattle.window.specs.Window.{window_of, Inside}
-use Rattle.window.proofs.WindowLaws.{window-part, length-window, window-pass}
+use Rattle.window.proofs.WindowLaws.{length-window, window-pass}
 use Rattle.player.specs.declared.Run.{Run}
-use Rattle.player.specs.declared.Last.{Last}
 use Rattle.player.specs.Stands.{replay_from, MayCome, Enough, Lines, Stands, Holds}
 use Rattle.player.specs.Turns.{kinds_of, kinds_in, Ends, Begun, Fresh, Reached, Printed}
 use Rattle.player.proofs.ReplayLaws.{fuel, decode-more}
@@ -45,19 +41,20 @@ use Rattle.player.proofs.StandLaws.{reached-over}
 module _ (bs : List ℕ) where
   abbrev RamFits : Decoded → Type 0
   RamFits d =
-      (r : Record) (s : ℕ) → d ≡ Ok (Some (r, s)) → (n : ℕ) → r ≡ Ram n → (n ≤ ram_max) × ((s ≡ 4 + n) × (4 + n ≤ length bs))
+      (r : Record) (s : ℕ) → d ≡ Ok (Some (r, s)) → (n : ℕ) → r ≡ Ram n
+      → ((1 ≤ n) × (n ≤ ram_max)) × ((s ≡ 4 + n) × (4 + n ≤ length bs))
 
   ram-when : (t : Bool) (d : Decoded) → (t ≡ true → RamFits d) → RamFits (pick t d bad)
   ram-when true d f = f refl
   ram-when false d f = λ r s e n g. let z : ◌≡◌ {A = ℕ} 0 1 = cc in absurd (omega arith)
 
-  ram-good : (k : ℕ) → k ≤ ram_max → 4 + k ≤ length bs → RamFits (Ok (Some (Ram k, 4 + k)))
-  ram-good k b c r s e n g =
+  ram-good : (k : ℕ) → 1 ≤ k → k ≤ ram_max → 4 + k ≤ length bs → RamFits (Ok (Some (Ram k, 4 + k)))
+  ram-good k a b c r s e n g =
       let p = same_found e in
       let z : Ram k ≡ Ram n = ap (λ (q : Record × ℕ). q.0) p ∙ g in
       let y : k ≡ n = cc in
       let v : 4 + k ≡ s = ap (λ (q : Record × ℕ). q.1) p in
-      (omega arith, (omega arith, omega arith))
+      ((omega arith, omega arith), (omega arith, omega arith))
 
   ram-at : RamFits (decode_ram bs)
   unfolding decode_ram
@@ -66,23 +63,24 @@ module _ (bs : List ℕ) where
       let n = u16_at bs 2 in
       ram-when (leb 4 l) _ (λ _. ram-when (both (leb 1 n) (leb n ram_max)) _ (λ e. ram-when (leb (4 + n) l) _ (λ f.
       ram-when (all_kinds (take n (drop 4 bs))) _ (λ _.
-      ram-good n (leb-true n ram_max (both_right (leb 1 n) (leb n ram_max) e)) (leb-true (4 + n) l f)))))
+      ram-good n (leb-true 1 n (both_left (leb 1 n) (leb n ram_max) e)) (leb-true n ram_max (both_right (leb 1 n) (leb n ram_max) e))
+      (leb-true (4 + n) l f)))))
 
   pub ram-fits : RamFits (decode true bs)
   unfolding decode
   ram-fits = ram-when (leb 2 (length bs)) _ (λ _. ram-when (has_mark 82 77 bs) _ (λ _. ram-at))
 
 pub ram-is : (bs : List ℕ) {d : Decoded} {r : Record} {n s : ℕ} → d ≡ decode true bs → d ≡ Ok (Some (r, s)) → r ≡ Ram n
-    → (s ≡ 4 + n) × (s ≤ length bs)
-ram-is bs {d} {r} {n} {s} a b e = let z = ram-fits bs r s (sym a ∙ b) n e in (z.1.0, omega (arith, z.1.0, z.1.1))
+    → (1 ≤ n) × ((s ≡ 4 + n) × (s ≤ length bs))
+ram-is bs {d} {r} {n} {s} a b e = let z = ram-fits bs r s (sym a ∙ b) n e in (z.0.0, (z.1.0, omega (arith, z.1.0, z.1.1)))
 
 -- N is the number of the bytes behind the head
 pub first-count : (bs : List ℕ) {d : Decoded} {r : Record} {n s : ℕ} → d ≡ decode true bs → d ≡ Ok (Some (r, s)) → r ≡ Ram n
     → kinds_in (decode true bs) ≡ Some (length (take (s - 4) (drop 4 bs)))
 first-count bs {d} {r} {n} {s} a b e =
     let z = ram-is bs a b e in
-    let k : length (take (s - 4) (drop 4 bs)) ≡ s - 4 = length-take-le (s - 4) (drop 4 bs) (simp length-drop (omega (arith, z.1))) in
-    let m : n ≡ length (take (s - 4) (drop 4 bs)) = omega (arith, k, z.0) in
+    let k : length (take (s - 4) (drop 4 bs)) ≡ s - 4 = length-take-le (s - 4) (drop 4 bs) (simp length-drop (omega (arith, z.1.1))) in
+    let m : n ≡ length (take (s - 4) (drop 4 bs)) = omega (arith, k, z.1.0) in
     ap (λ (x : Decoded). kinds_in x) (sym a ∙ b) ∙ ap (λ (x : Record). kinds_of x) e ∙ ap (λ (x : ℕ). Some x) m
 
 record-kinds : (r : Record) (n : ℕ) → kinds_of r ≡ Some n → r ≡ Ram n
@@ -99,7 +97,7 @@ first_some bs (Err g) n e f = absurd (let z : ◌≡◌ {A = ℕ} 0 1 = cc in om
 first_some bs (Ok (Some (r, s))) n e f =
     let g = record-kinds r n f in
     let z = ram-fits bs r s (sym e) n g in
-    (ap (λ (v : Record). Ok (Some (v, s))) g ∙ ap (λ (v : ℕ). Ok (Some (Ram n, v))) z.1.0, (z.0, z.1.1))
+    (ap (λ (v : Record). Ok (Some (v, s))) g ∙ ap (λ (v : ℕ). Ok (Some (Ram n, v))) z.1.0, (z.0.1, z.1.1))
 
 pub record First (bs : List ℕ) (n : ℕ) : Type 0 where
   pub is : decode true bs ≡ Ok (Some (Ram n, 4 + n))

@@ -1,5 +1,5 @@
 -- `player::play_input` meets its contract: the first record's kinds and a fresh machine, then the rest of the input. Assumes nothing.
-use Rattle.std.proofs.Common.{ℕ, List, length, take, drop, ◌∙◌, sym, subst, refl, ap, arith}
+use Rattle.std.proofs.Common.{ℕ, List, length, take, drop, ◌∙◌, sym, refl, ap, arith}
 use Rattle.std.proofs.KnownBytes.{Consumes-nil}
 use lib.Seq.{length-take-le}
 use Rattle.records.proofs.LineLaws.{length-bad_line}

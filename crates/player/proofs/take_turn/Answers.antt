@@ -1,5 +1,5 @@
 -- `player::take_turn` meets its contract: window, lines and record, each by its own function. Assumes nothing.
-use Rattle.std.proofs.Common.{rules, sym, ◌∙◌, subst, arith, ap}
+use Rattle.std.proofs.Common.{rules, sym, ◌∙◌, subst, ap}
 use Rattle.std.specs.Io.KnownBytes.{Consumes}
 use Rattle.std.proofs.KnownBytes.{Appends-trans}
 use Rattle.std.proofs.lemmas.Result.{IfOk-weaker}
