@@ -1,21 +1,19 @@
 -- The first record: its kinds, and a fresh machine with them. Assumes nothing.
---     copy_more                one kind more copied
---     first-kinds              N as it is decoded from the part that was lent
---     ram-fits, first-is, first-room   a first record has kinds, few enough, and all of them are there
+--     ram-is, first-count        what is handed on of a first record
+--     First, first-of, first-room   a first record has few enough kinds, and all of them are there
+--     none-of                  there is none
 --     first-none, first-lines  what is printed where there is none, and where there is one
---     printed-bad, printed-all the whole input
+--     printed-bad, printed-all   the whole input
 use Prim.Native.Nat.{ℕ, suc, ◌+◌, ◌-◌, ◌≤◌, ◌<◌}
 use mathlib.Core.Path.{◌≡◌, refl, ap, ◌∙◌, sym, subst}
 use mathlib.Core.Bool.{Bool, true, false}
-use mathlib.Core.Logic.{◌≢◌}
 use mathlib.Core.List.{List, [], ◌++◌, append-nil}
-use native.Mathlib.Nat.{zero-add}
-use native.Mathlib.Numerals.{add-one}
 use native.Mathlib.Omega.{arith}
-use lib.ListN.{length, get_or, set, take, drop, length-drop, length-append}
-use lib.Seq.{paste, paste-suc, take-paste, get_or-drop, drop-drop, take-take, take-append-le, drop-append-le}
+use lib.ListN.{length, take, drop, length-drop, length-append}
+use lib.Seq.{length-take-le, take-append-le, drop-append-le}
 use lib.Dec.{leb}
 use borrow.Author.Tests.{leb-true}
+use Rattle.std.proofs.Common.{Ok, Err, None, Some}
 use Rattle.layout.specs.Choice.{pick, both}
 use Rattle.layout.proofs.ChoiceLaws.{both_left, both_right}
 use Rattle.blocks.specs.Kinds.{all_kinds}
@@ -25,52 +23,37 @@ use Rattle.machine.specs.Machine.{Machine, fresh_machine}
 use Rattle.machine.specs.After.{machine_at}
 use Rattle.records.specs.declared.Record.{Record}
 use Rattle.records.specs.declared.Record.TheVariants.{Ram, Write, Kind, Frame, Steps}
-use Rattle.records.specs.declared.Decoded.{Decoded}
-use Rattle.records.specs.declared.Decoded.TheVariants.{End, Good, Bad}
-use Rattle.records.specs.Records.{u16_at, has_mark, ram_max, decode_ram, decode}
+use Rattle.records.specs.Records.{Decoded, bad, u16_at, has_mark, ram_max, decode_ram, decode}
 use Rattle.records.specs.Lines.{bad_line}
+use Rattle.records.proofs.SizeLaws.{same_found}
 use Rattle.replay.specs.Replay.{replay_for, replay_first, replay}
 use Rattle.window.specs.declared.Window.{Window}
 use Rattle.window.specs.Window.{window_of, Inside}
-use Rattle.window.proofs.WindowLaws.{window-part, length-window, window-pass}
+use Rattle.window.proofs.WindowLaws.{length-window, window-pass}
 use Rattle.player.specs.declared.Run.{Run}
-use Rattle.player.specs.declared.Last.{Last}
 use Rattle.player.specs.Stands.{replay_from, MayCome, Enough, Lines, Stands, Holds}
 use Rattle.player.specs.Turns.{kinds_of, kinds_in, Ends, Begun, Fresh, Reached, Printed}
 use Rattle.player.proofs.ReplayLaws.{fuel, decode-more}
 use Rattle.player.proofs.StandLaws.{reached-over}
 
--- ---- the kinds, copied
-
-pub copy_more : (b d x : List ℕ) (at i : ℕ) → at + i < length x → i < length d → b ≡ paste d 0 (drop at x) i
-    → set b i (get_or x (at + i) 0) ≡ paste d 0 (drop at x) (i + 1)
-copy_more b d x at i h g e =
-    let l : i < length (drop at x) = simp length-drop (omega arith) in
-    ap (λ (c : List ℕ). set c i (get_or x (at + i) 0)) e
-    ∙ ap (λ (v : ℕ). set (paste d 0 (drop at x) i) i v) (sym (get_or-drop at x i 0))
-    ∙ ap (λ (k : ℕ). set (paste d 0 (drop at x) i) k (get_or (drop at x) i 0)) (sym (zero-add i))
-    ∙ paste-suc d 0 (drop at x) i 0 (omega arith) l
-    ∙ ap (λ (k : ℕ). paste d 0 (drop at x) k) (sym (add-one i))
-
 -- ---- what is decoded
-
-pub first-kinds : (w : Window) (x : List ℕ) (d : Decoded) → d ≡ decode true (take (w.len - w.from) (drop w.from x))
-    → kinds_in d ≡ kinds_in (decode true (window_of w x))
-first-kinds w x d e = ap (λ (z : Decoded). kinds_in z) (e ∙ ap (λ (l : List ℕ). decode true l) (window-part w x))
 
 module _ (bs : List ℕ) where
   abbrev RamFits : Decoded → Type 0
-  RamFits d = (r : Record) (s : ℕ) → d ≡ Good r s → (n : ℕ) → r ≡ Ram n → ((1 ≤ n) × (n ≤ ram_max)) × ((s ≡ 4 + n) × (4 + n ≤ length bs))
+  RamFits d =
+      (r : Record) (s : ℕ) → d ≡ Ok (Some (r, s)) → (n : ℕ) → r ≡ Ram n
+      → ((1 ≤ n) × (n ≤ ram_max)) × ((s ≡ 4 + n) × (4 + n ≤ length bs))
 
-  ram-when : (t : Bool) (d : Decoded) → (t ≡ true → RamFits d) → RamFits (pick t d Bad)
+  ram-when : (t : Bool) (d : Decoded) → (t ≡ true → RamFits d) → RamFits (pick t d bad)
   ram-when true d f = f refl
   ram-when false d f = λ r s e n g. let z : ◌≡◌ {A = ℕ} 0 1 = cc in absurd (omega arith)
 
-  ram-good : (k : ℕ) → 1 ≤ k → k ≤ ram_max → 4 + k ≤ length bs → RamFits (Good (Ram k) (4 + k))
+  ram-good : (k : ℕ) → 1 ≤ k → k ≤ ram_max → 4 + k ≤ length bs → RamFits (Ok (Some (Ram k, 4 + k)))
   ram-good k a b c r s e n g =
-      let z : Ram k ≡ Ram n = cc in
+      let p = same_found e in
+      let z : Ram k ≡ Ram n = ap (λ (q : Record × ℕ). q.0) p ∙ g in
       let y : k ≡ n = cc in
-      let v : 4 + k ≡ s = cc in
+      let v : 4 + k ≡ s = ap (λ (q : Record × ℕ). q.1) p in
       ((omega arith, omega arith), (omega arith, omega arith))
 
   ram-at : RamFits (decode_ram bs)
@@ -83,53 +66,75 @@ module _ (bs : List ℕ) where
       ram-good n (leb-true 1 n (both_left (leb 1 n) (leb n ram_max) e)) (leb-true n ram_max (both_right (leb 1 n) (leb n ram_max) e))
       (leb-true (4 + n) l f)))))
 
-  ram-fits : RamFits (decode true bs)
+  pub ram-fits : RamFits (decode true bs)
   unfolding decode
   ram-fits = ram-when (leb 2 (length bs)) _ (λ _. ram-when (has_mark 82 77 bs) _ (λ _. ram-at))
 
--- an N that is not 0 is that of a first record
-record-kinds : (r : Record) (n : ℕ) → kinds_of r ≡ n → n ≢ 0 → r ≡ Ram n
-record-kinds (Ram k) n e h = ap Ram e
-record-kinds (Write a v) n e h = absurd (h (sym e))
-record-kinds (Kind b k) n e h = absurd (h (sym e))
-record-kinds (Frame k) n e h = absurd (h (sym e))
-record-kinds (Steps g k) n e h = absurd (h (sym e))
+pub ram-is : (bs : List ℕ) {d : Decoded} {r : Record} {n s : ℕ} → d ≡ decode true bs → d ≡ Ok (Some (r, s)) → r ≡ Ram n
+    → (1 ≤ n) × ((s ≡ 4 + n) × (s ≤ length bs))
+ram-is bs {d} {r} {n} {s} a b e = let z = ram-fits bs r s (sym a ∙ b) n e in (z.0.0, (z.1.0, omega (arith, z.1.0, z.1.1)))
 
-first_some : (bs : List ℕ) (d : Decoded) (n : ℕ) → d ≡ decode true bs → kinds_in d ≡ n → n ≢ 0
-    → (d ≡ Good (Ram n) (4 + n)) × ((n ≤ ram_max) × (4 + n ≤ length bs))
-first_some bs End n e f h = absurd (h (sym f))
-first_some bs Bad n e f h = absurd (h (sym f))
-first_some bs (Good r s) n e f h =
-    let g = record-kinds r n f h in
+-- N is the number of the bytes behind the head
+pub first-count : (bs : List ℕ) {d : Decoded} {r : Record} {n s : ℕ} → d ≡ decode true bs → d ≡ Ok (Some (r, s)) → r ≡ Ram n
+    → kinds_in (decode true bs) ≡ Some (length (take (s - 4) (drop 4 bs)))
+first-count bs {d} {r} {n} {s} a b e =
+    let z = ram-is bs a b e in
+    let k : length (take (s - 4) (drop 4 bs)) ≡ s - 4 = length-take-le (s - 4) (drop 4 bs) (simp length-drop (omega (arith, z.1.1))) in
+    let m : n ≡ length (take (s - 4) (drop 4 bs)) = omega (arith, k, z.1.0) in
+    ap (λ (x : Decoded). kinds_in x) (sym a ∙ b) ∙ ap (λ (x : Record). kinds_of x) e ∙ ap (λ (x : ℕ). Some x) m
+
+record-kinds : (r : Record) (n : ℕ) → kinds_of r ≡ Some n → r ≡ Ram n
+record-kinds (Ram k) n e = let z : k ≡ n = cc in ap Ram z
+record-kinds (Write a v) n e = absurd (let z : ◌≡◌ {A = ℕ} 0 1 = cc in omega arith)
+record-kinds (Kind b k) n e = absurd (let z : ◌≡◌ {A = ℕ} 0 1 = cc in omega arith)
+record-kinds (Frame k) n e = absurd (let z : ◌≡◌ {A = ℕ} 0 1 = cc in omega arith)
+record-kinds (Steps g k) n e = absurd (let z : ◌≡◌ {A = ℕ} 0 1 = cc in omega arith)
+
+first_some : (bs : List ℕ) (d : Decoded) (n : ℕ) → d ≡ decode true bs → kinds_in d ≡ Some n
+    → (d ≡ Ok (Some (Ram n, 4 + n))) × ((n ≤ ram_max) × (4 + n ≤ length bs))
+first_some bs (Ok None) n e f = absurd (let z : ◌≡◌ {A = ℕ} 0 1 = cc in omega arith)
+first_some bs (Err g) n e f = absurd (let z : ◌≡◌ {A = ℕ} 0 1 = cc in omega arith)
+first_some bs (Ok (Some (r, s))) n e f =
+    let g = record-kinds r n f in
     let z = ram-fits bs r s (sym e) n g in
-    (ap (λ (v : Record). Good v s) g ∙ ap (λ (v : ℕ). Good (Ram n) v) z.1.0, (z.0.1, z.1.1))
+    (ap (λ (v : Record). Ok (Some (v, s))) g ∙ ap (λ (v : ℕ). Ok (Some (Ram n, v))) z.1.0, (z.0.1, z.1.1))
 
-pub first-is : (bs : List ℕ) (n : ℕ) → n ≡ kinds_in (decode true bs) → n ≢ 0 → (decode true bs ≡ Good (Ram n) (4 + n)) × ((n ≤ ram_max) ×
-    (4 + n ≤ length bs))
-first-is bs n e h = first_some bs (decode true bs) n refl (sym e) h
+pub record First (bs : List ℕ) (n : ℕ) : Type 0 where
+  pub is : decode true bs ≡ Ok (Some (Ram n, 4 + n))
+  pub few : n ≤ ram_max
+  pub room : 4 + n ≤ length bs
+
+-- of the bytes that were lent
+pub first-of : {ls bs : List ℕ} {n : ℕ} → ls ≡ bs → kinds_in (decode true ls) ≡ Some n → First bs n
+first-of {ls} {bs} {n} e f =
+    let z = first_some bs (decode true bs) n refl (ap (λ (l : List ℕ). kinds_in (decode true l)) (sym e) ∙ f) in
+    record { is = z.0; few = z.1.0; room = z.1.1 }
+
+pub none-of : {ls bs : List ℕ} → ls ≡ bs → kinds_in (decode true ls) ≡ None → kinds_in (decode true bs) ≡ None
+none-of e f = ap (λ (l : List ℕ). kinds_in (decode true l)) (sym e) ∙ f
 
 pub first-room : (w : Window) (x : List ℕ) (n : ℕ) → Inside w x → 4 + n ≤ length (window_of w x) → w.from + (4 + n) ≤ w.len
 first-room w x n h g = omega (arith, g, length-window w x h, h.order)
 
-none-at : (bs cs : List ℕ) (d : Decoded) → d ≡ decode true bs → kinds_in d ≡ 0 → replay_first cs d ≡ bad_line 0
-none-at bs cs End e f = refl
-none-at bs cs Bad e f = refl
-none-at bs cs (Good (Ram n) s) e f = let z = ram-fits bs (Ram n) s (sym e) n refl in absurd (omega (arith, z.0.0, f))
-none-at bs cs (Good (Write a v) s) e f = refl
-none-at bs cs (Good (Kind b k) s) e f = refl
-none-at bs cs (Good (Frame n) s) e f = refl
-none-at bs cs (Good (Steps g k) s) e f = refl
+none-at : (cs : List ℕ) (d : Decoded) → kinds_in d ≡ None → replay_first cs d ≡ bad_line 0
+none-at cs (Ok None) f = refl
+none-at cs (Err e) f = refl
+none-at cs (Ok (Some (Ram n, s))) f = absurd (let z : ◌≡◌ {A = ℕ} 0 1 = cc in omega arith)
+none-at cs (Ok (Some (Write a v, s))) f = refl
+none-at cs (Ok (Some (Kind b k, s))) f = refl
+none-at cs (Ok (Some (Frame n, s))) f = refl
+none-at cs (Ok (Some (Steps g k, s))) f = refl
 
 -- ---- what is printed
 
 module _ (bs : List ℕ) (ended : Bool) (h : Enough bs ended) (more : List ℕ) (may : MayCome ended more) where
-  pub first-none : kinds_in (decode true bs) ≡ 0 → replay (bs ++ more) ≡ bad_line 0
+  pub first-none : kinds_in (decode true bs) ≡ None → replay (bs ++ more) ≡ bad_line 0
   unfolding replay
   first-none f =
       ap (λ (d : Decoded). replay_first (bs ++ more) d) (decode-more true bs ended more h may)
-      ∙ none-at bs (bs ++ more) (decode true bs) refl f
+      ∙ none-at (bs ++ more) (decode true bs) f
 
-  pub first-lines : (n : ℕ) → decode true bs ≡ Good (Ram n) (4 + n) → 4 + n ≤ length bs
+  pub first-lines : (n : ℕ) → decode true bs ≡ Ok (Some (Ram n, 4 + n)) → 4 + n ≤ length bs
       → replay (bs ++ more) ≡ replay_from (4 + n) (fresh_machine (take n (drop 4 bs))) (drop (4 + n) bs ++ more)
   unfolding replay
   first-lines n e g =
@@ -145,37 +150,19 @@ module _ (bs : List ℕ) (ended : Bool) (h : Enough bs ended) (more : List ℕ) 
       ∙ ap (λ (l : List ℕ). replay_for k (4 + n) (fresh_machine (take n (drop 4 bs))) l) (drop-append-le (4 + n) bs more g)
       ∙ fuel k (suc (length rest)) (4 + n) (fresh_machine (take n (drop 4 bs))) rest long (omega arith)
 
-abbrev pub printed-bad : (w : Window) (x y y' : List ℕ) (end n : ℕ) → Enough (window_of w x) w.ended → n ≡ kinds_in (decode true
-    (window_of w x)) → n ≡ 0
-    → Ends y 0 (bad_line 0) y' end → Printed (window_of w x) (record { end = end; ended = w.ended }) y'
-printed-bad w x y y' end n h k e z =
+abbrev pub printed-bad : (w : Window) (x y y' : List ℕ) (end : ℕ) → Enough (window_of w x) w.ended
+    → kinds_in (decode true (window_of w x)) ≡ None → Ends y 0 (bad_line 0) y' end → Printed (window_of w x) (record { end = end; ended = w.ended }) y'
+printed-bad w x y y' end h e z =
     let bs = window_of w x in
     record {
       got = [];
       put = [];
       room = z.room;
       whole = λ _ more may.
-          ap (λ (l : List ℕ). replay (l ++ more)) (append-nil bs) ∙ first-none bs w.ended h more may (sym k ∙ e) ∙ sym z.bytes;
+          ap (λ (l : List ℕ). replay (l ++ more)) (append-nil bs) ∙ first-none bs w.ended h more may e ∙ sym z.bytes;
     }
 
 -- ---- a fresh machine with the first record's kinds
-
--- the kinds as they are lent: the first n of the table
-pub kinds-lent : (w : Window) (x old new : List ℕ) (n : ℕ) → Inside w x → 4 + n ≤ length (window_of w x) → n ≤ length old
-    → new ≡ paste old 0 (drop (w.from + 4) x) n → take (n - 0) (drop 0 new) ≡ take n (drop 4 (window_of w x))
-kinds-lent w x old new n h g f e =
-    let from = w.from + 4 in
-    let v : Window = record { from = from; len = w.len; ended = w.ended } in
-    let k : n - 0 ≡ n = omega arith in
-    let long : w.from + 4 + n ≤ w.len = omega (arith, g, length-window w x h, h.order) in
-    let l : n ≤ length (drop from x) = simp length-drop (omega (arith, long, h.within)) in
-    ap (λ (i : ℕ). take i new) k
-    ∙ ap (λ (c : List ℕ). take n c) e
-    ∙ ap (λ (i : ℕ). take i (paste old 0 (drop from x) n)) (sym (zero-add n))
-    ∙ take-paste old 0 (drop from x) n (omega arith) l
-    ∙ sym (take-take n (w.len - from) (drop from x) (omega (arith, long)))
-    ∙ ap (λ (c : List ℕ). take n c) (window-part v x)
-    ∙ ap (λ (c : List ℕ). take n c) (sym (drop-drop 4 w.from (take w.len x)))
 
 pub begun-holds : (w : Window) (n : ℕ) (s : Run) (x y : List ℕ) → Inside w x → w.from + (4 + n) ≤ w.len → Begun w n s → Holds s x y
 begun-holds w n s x y h g b = record {
@@ -189,7 +176,7 @@ unfolding fresh_machine
 fresh-is c m k t u l ks e f g = λ i. machine_at (e i) (g.mem i) (f i) (g.state i) (g.used i) (g.lens i)
 
 module _ (w : Window) (x : List ℕ) (h : Enough (window_of w x) w.ended) (n : ℕ)
-    (d : decode true (window_of w x) ≡ Good (Ram n) (4 + n)) (g : 4 + n ≤ length (window_of w x)) (s : Run) (b : Begun w n s)
+    (d : decode true (window_of w x) ≡ Ok (Some (Ram n, 4 + n))) (g : 4 + n ≤ length (window_of w x)) (s : Run) (b : Begun w n s)
     (m k t u l y : List ℕ) (fresh : Fresh m t u l) (kinds : k ≡ take n (drop 4 (window_of w x))) where
   pub begun-stands : Stands (window_of w x) [] s m k t u l x y
   begun-stands =
@@ -223,9 +210,3 @@ module _ (w : Window) (x : List ℕ) (h : Enough (window_of w x) w.ended) (n : �
         reached-over s m k t u l x y r m1 k1 t1 u1 l1 x1 y1 a (window_of w x) [] few begun-stands more may
         ∙ ap (λ (z : List ℕ). a.put ++ z) (append-nil (take r.at y1));
   }
-
-pub printed-last : (bs y : List ℕ) (r : Run) (e : Last) → (e.end ≡ r.at) × (e.ended ≡ r.window.ended)
-    → Printed bs (record { end = r.at; ended = r.window.ended }) y → Printed bs e y
-printed-last bs y r e f p =
-    let is : record { end = r.at; ended = r.window.ended } ≡ e = λ i. record { end = sym f.0 i; ended = sym f.1 i } in
-    subst (λ (z : Last). Printed bs z y) is p

@@ -12,12 +12,11 @@ use native.Mathlib.Omega.{arith}
 use lib.ListN.{length, take, drop, length-drop}
 use lib.Seq.{drop-append-le}
 use lib.Dec.{leb}
+use Rattle.std.proofs.Common.{Ok, Err, None, Some}
 use Rattle.layout.specs.Choice.{pick}
 use Rattle.machine.specs.Machine.{Machine}
 use Rattle.records.specs.declared.Record.{Record}
-use Rattle.records.specs.declared.Decoded.{Decoded}
-use Rattle.records.specs.declared.Decoded.TheVariants.{End, Good, Bad}
-use Rattle.records.specs.Records.{decode}
+use Rattle.records.specs.Records.{Decoded, bad, decode}
 use Rattle.records.specs.Lines.{lines_of, sent_line, bad_line}
 use Rattle.records.proofs.SizeLaws.{decode-sized, decode-append}
 use Rattle.replay.specs.Replay.{record_of, replay_at, replay_for, replay}
@@ -27,11 +26,11 @@ use Rattle.player.specs.Turns.{gathered_max, kept_at, flushed}
 -- ---- how many records may be counted
 
 fuel-at : (o : ℕ) (s : Machine) (bs : List ℕ) (f g : ℕ → Machine → List ℕ → List ℕ) (d : Decoded)
-    → ((r : Record) (n : ℕ) → d ≡ Good r n → f (o + n) (record_of r s).1 (drop n bs) ≡ g (o + n) (record_of r s).1 (drop n bs))
+    → ((r : Record) (n : ℕ) → d ≡ Ok (Some (r, n)) → f (o + n) (record_of r s).1 (drop n bs) ≡ g (o + n) (record_of r s).1 (drop n bs))
     → replay_at o s bs f d ≡ replay_at o s bs g d
-fuel-at o s bs f g End h = refl
-fuel-at o s bs f g Bad h = refl
-fuel-at o s bs f g (Good r n) h = ap (λ (l : List ℕ). lines_of (record_of r s).0 ++ l) (h r n refl)
+fuel-at o s bs f g (Ok None) h = refl
+fuel-at o s bs f g (Err e) h = refl
+fuel-at o s bs f g (Ok (Some (r, n))) h = ap (λ (l : List ℕ). lines_of (record_of r s).0 ++ l) (h r n refl)
 
 pub fuel : (k j o : ℕ) (s : Machine) (bs : List ℕ) → length bs < k → length bs < j → replay_for k o s bs ≡ replay_for j o s bs
 fuel zero j o s bs h g = absurd (omega arith)
@@ -50,18 +49,18 @@ module _ (o : ℕ) (s : Machine) (bs : List ℕ) where
   by : (d : Decoded) → decode false bs ≡ d → replay_from o s bs ≡ replay_at o s bs (λ p t cs. replay_for (length bs) p t cs) d
   by d e = ap (λ (x : Decoded). replay_at o s bs (λ p t cs. replay_for (length bs) p t cs) x) e
 
-  pub from_end : decode false bs ≡ End → replay_from o s bs ≡ sent_line s.ctl.sent s.ctl.received
-  from_end e = by End e
+  pub from_end : decode false bs ≡ Ok None → replay_from o s bs ≡ sent_line s.ctl.sent s.ctl.received
+  from_end e = by (Ok None) e
 
-  pub from-bad : decode false bs ≡ Bad → replay_from o s bs ≡ bad_line o
-  from-bad e = by Bad e
+  pub from-bad : decode false bs ≡ bad → replay_from o s bs ≡ bad_line o
+  from-bad e = by bad e
 
-  pub from-good : (r : Record) (n : ℕ) → decode false bs ≡ Good r n
+  pub from-good : (r : Record) (n : ℕ) → decode false bs ≡ Ok (Some (r, n))
       → replay_from o s bs ≡ lines_of (record_of r s).0 ++ replay_from (o + n) (record_of r s).1 (drop n bs)
   from-good r n e =
       let z = decode-sized bs false r n e in
       let a : length (drop n bs) < length bs = simp length-drop (omega (arith, z)) in
-      by (Good r n) e
+      by (Ok (Some (r, n))) e
       ∙ ap (λ (l : List ℕ). lines_of (record_of r s).0 ++ l)
       (fuel (length bs) (suc (length (drop n bs))) (o + n) (record_of r s).1 (drop n bs) a (omega arith))
 
@@ -82,19 +81,19 @@ module _ (read wrote g : List ℕ) (o : ℕ) (s : Machine) (w : List ℕ) where
       ∙ ap (λ (l : List ℕ). wrote ++ (g ++ replay_from o s l)) (sym (append_assoc w got more))
 
   module _ (ended : Bool) (h : Enough w ended) (f : Lines read wrote g true o s w ended) where
-    pub lines_end : decode false w ≡ End → Lines read wrote (g ++ sent_line s.ctl.sent s.ctl.received) false o s w ended
+    pub lines_end : decode false w ≡ Ok None → Lines read wrote (g ++ sent_line s.ctl.sent s.ctl.received) false o s w ended
     lines_end e more m =
         f more m
         ∙ ap (λ (l : List ℕ). wrote ++ (g ++ l)) (from_end o s (w ++ more) (decode-more false w ended more h m ∙ e))
         ∙ ap (λ (l : List ℕ). wrote ++ l) (sym (append-nil (g ++ sent_line s.ctl.sent s.ctl.received)))
 
-    pub lines-bad : decode false w ≡ Bad → Lines read wrote (g ++ bad_line o) false o s w ended
+    pub lines-bad : decode false w ≡ bad → Lines read wrote (g ++ bad_line o) false o s w ended
     lines-bad e more m =
         f more m
         ∙ ap (λ (l : List ℕ). wrote ++ (g ++ l)) (from-bad o s (w ++ more) (decode-more false w ended more h m ∙ e))
         ∙ ap (λ (l : List ℕ). wrote ++ l) (sym (append-nil (g ++ bad_line o)))
 
-    pub lines-good : (r : Record) (n : ℕ) → decode false w ≡ Good r n
+    pub lines-good : (r : Record) (n : ℕ) → decode false w ≡ Ok (Some (r, n))
         → Lines read wrote (g ++ lines_of (record_of r s).0) true (o + n) (record_of r s).1 (drop n w) ended
     lines-good r n e more m =
         let z = decode-sized w false r n e in

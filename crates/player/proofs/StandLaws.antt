@@ -1,9 +1,9 @@
 -- Where a run stands behind each part of a turn. Assumes nothing.
 --     line-ends                a line that was printed, and those gathered before it
---     next_fits                what is decoded lies within the window
+--     decoded-fits             what is decoded lies within the window
 --     acted-end, acted-bad, acted-good   what was decoded is played
 --     kept-few, turned         few lines are kept before a record; one turn whole
---     still, reached-none, reached-more, reached-all, reached-going, reached-over   turns one after another, until the run is over
+--     still, reached-none, reached-more, reached-going, reached-over   turns one after another, until the run is over
 use Prim.Native.Nat.{ℕ, ◌+◌, ◌-◌, ◌≤◌, ◌<◌}
 use mathlib.Core.Path.{◌≡◌, refl, ap, ◌∙◌, sym, subst}
 use mathlib.Core.Bool.{Bool, true, false}
@@ -12,15 +12,14 @@ use native.Mathlib.Omega.{arith}
 use lib.ListN.{length, take, drop, length-drop, length-append}
 use lib.Dec.{leb}
 use borrow.Author.Tests.{leb-true}
+use Rattle.std.proofs.Common.{Ok, Err, Option, None, Some}
 use Rattle.layout.specs.Choice.{pick}
 use Rattle.layout.proofs.ChoiceLaws.{clash}
 use Rattle.controller.specs.declared.Controller.{Controller}
 use Rattle.machine.specs.Machine.{Machine}
 use Rattle.machine.specs.After.{machine_at}
 use Rattle.records.specs.declared.Record.{Record}
-use Rattle.records.specs.declared.Decoded.{Decoded}
-use Rattle.records.specs.declared.Decoded.TheVariants.{End, Good, Bad}
-use Rattle.records.specs.Records.{record_max, decode}
+use Rattle.records.specs.Records.{Decoded, bad, record_max, decode}
 use Rattle.records.specs.Lines.{line_max, lines_of, sent_line, bad_line, Prints}
 use Rattle.records.proofs.SizeLaws.{decode-sized}
 use Rattle.records.proofs.PrintLaws.{length-prints, take-prints}
@@ -29,7 +28,7 @@ use Rattle.replay.specs.Replay.{record_of}
 use Rattle.replay.specs.Plays.{Plays}
 use Rattle.window.specs.declared.Window.{Window}
 use Rattle.window.specs.Window.{window_of, Inside, Refilled}
-use Rattle.window.proofs.WindowLaws.{window-part, length-window, window-pass}
+use Rattle.window.proofs.WindowLaws.{length-window, window-pass}
 use Rattle.player.specs.declared.Run.{Run}
 use Rattle.player.specs.Stands.{Enough, Lines, Stands, offset_end, run_at}
 use Rattle.player.specs.Turns.{gathered_max, kept_at, flushed, size_of, Ends, Went, Acted, Turned, Reached}
@@ -44,19 +43,19 @@ line-ends {x} {y} {i} {j} {l} p h k =
     record { room = line-room p h k; bytes = take-prints p e }
 
 size-decoded : (bs : List ℕ) (d : Decoded) → d ≡ decode false bs → size_of d ≤ length bs
-size-decoded bs End e = omega arith
-size-decoded bs (Good r n) e = (decode-sized bs false r n (sym e)).1
-size-decoded bs Bad e = omega arith
+size-decoded bs (Ok None) e = omega arith
+size-decoded bs (Ok (Some (r, n))) e = (decode-sized bs false r n (sym e)).1
+size-decoded bs (Err f) e = omega arith
 
--- of the part that was lent
-pub next_fits : (w : Window) (x : List ℕ) (d : Decoded) → Inside w x → d ≡ decode false (take (w.len - w.from) (drop w.from x))
-    → (d ≡ decode false (window_of w x)) × (w.from + size_of d ≤ w.len)
-next_fits w x d h e =
-    let f : d ≡ decode false (window_of w x) = e ∙ ap (λ (l : List ℕ). decode false l) (window-part w x) in
-    (f, omega (arith, h.order, length-window w x h, size-decoded (window_of w x) d f))
+pub decoded-fits : (w : Window) (x : List ℕ) (d : Decoded) → Inside w x → d ≡ decode false (window_of w x)
+    → w.from + size_of d ≤ w.len
+decoded-fits w x d h e = omega (arith, h.order, length-window w x h, size-decoded (window_of w x) d e)
 
-pub good-fits : (w : Window) {d : Decoded} {r : Record} {n : ℕ} → d ≡ Good r n → w.from + size_of d ≤ w.len → w.from + n ≤ w.len
+pub good-fits : (w : Window) {d : Decoded} {r : Record} {n : ℕ} → d ≡ Ok (Some (r, n)) → w.from + size_of d ≤ w.len → w.from + n ≤ w.len
 good-fits w e h = subst (λ (k : ℕ). w.from + k ≤ w.len) (ap size_of e) h
+
+pub decoded-is : {d : Decoded} {o p : Option (Record × ℕ)} → d ≡ Ok o → o ≡ p → d ≡ Ok p
+decoded-is e f = e ∙ ap (λ (o : Option (Record × ℕ)). Ok o) f
 
 -- ---- what was decoded
 
@@ -84,20 +83,20 @@ module _ (d : Decoded) (w : Window) (c : Controller) (at o : ℕ) (m k t u l y :
         );
       })
 
-  pub acted-end : (y' : List ℕ) (end : ℕ) (r : Run) → d ≡ End → r ≡ run_at c end w o false → Ends y at (sent_line c.sent
+  pub acted-end : (y' : List ℕ) (end : ℕ) (r : Run) → d ≡ Ok None → r ≡ run_at c end w o false → Ends y at (sent_line c.sent
       c.received) y' end
       → Acted d w c at o m k t u l y r m k t u l y'
   acted-end y' end r e f z =
       acted-stop (sent_line c.sent c.received) y' end r f z
       (λ read wrote x h q g. lines_end read wrote (take at y) o before (window_of w x) w.ended h g (sym q ∙ e))
 
-  pub acted-bad : (y' : List ℕ) (end : ℕ) (r : Run) → d ≡ Bad → r ≡ run_at c end w o false → Ends y at (bad_line o) y' end
+  pub acted-bad : (y' : List ℕ) (end : ℕ) (r : Run) → d ≡ bad → r ≡ run_at c end w o false → Ends y at (bad_line o) y' end
       → Acted d w c at o m k t u l y r m k t u l y'
   acted-bad y' end r e f z =
       acted-stop (bad_line o) y' end r f z
       (λ read wrote x h q g. lines-bad read wrote (take at y) o before (window_of w x) w.ended h g (sym q ∙ e))
 
-  module _ (v : Record) (n : ℕ) (e : d ≡ Good v n) (p : Played) (m' k' t' u' l' y' : List ℕ) (r : Run)
+  module _ (v : Record) (n : ℕ) (e : d ≡ Ok (Some (v, n))) (p : Played) (m' k' t' u' l' y' : List ℕ) (r : Run)
       (b : Plays (record_of v (machine_at c m k t u l)) p m' k' t' u' l' y at y') (a : Went p w n o r) (room : p.end ≤ length y) where
     after_is : (record_of v before).1 ≡ machine_at r.ctl m' k' t' u' l'
     after_is = sym (λ i. machine_at ((a.ctl ∙ b.ctl) i) (b.mem i) (b.kinds i) (b.state i) (b.used i) (b.lens i))
@@ -121,7 +120,7 @@ module _ (d : Decoded) (w : Window) (c : Controller) (at o : ℕ) (m k t u l y :
         → o < r.offset)
     good-stands read wrote x h q g f =
         let bs = window_of w x in
-        let q' : decode false bs ≡ Good v n = sym q ∙ e in
+        let q' : decode false bs ≡ Ok (Some (v, n)) = sym q ∙ e in
         let z = decode-sized bs false v n q' in
         let i = good-offset read wrote x h z.1 f in
         let place : o + length bs ≡ length read = f.place in
@@ -244,10 +243,6 @@ module _ (s : Run) (m k t u l x y : List ℕ) where
                     omega (arith, less, some, v.1 going, w.1 z),
               );
         }
-
-    -- no turn is left
-    pub reached-all : turns ≤ 0 → Reached 0 s m k t u l x y r m1 k1 t1 u1 l1 x1 y1
-    reached-all h = let e : turns ≡ 0 = omega (arith, h) in subst (λ (z : ℕ). Reached z s m k t u l x y r m1 k1 t1 u1 l1 x1 y1) e a
 
 -- then the run is over: each record has a byte, and fewer bytes were read than there are turns
 not_going : (t : Bool) (o n : ℕ) → (t ≡ true → offset_end ≤ 0 + o) → o + n < offset_end → t ≡ false

@@ -1,7 +1,7 @@
 -- What the reader lost and what the writer got, through the parts of a run. Assumes nothing.
 --     both_ok                  two promises of one answer
 --     turns-on-none, turns-on-more, turns-on-all   turns one after another
---     printed-on-all, printed-on-last   the whole input, behind its first record
+--     printed-on-all           the whole input, behind its first record
 --     written                  what the writer got in all is `replay` of what the reader had
 use Prim.Native.Nat.{ℕ, ◌+◌, ◌-◌, ◌≤◌, ◌<◌}
 use mathlib.Core.Path.{◌≡◌, ap, ◌∙◌, sym, subst}
@@ -15,7 +15,6 @@ use Rattle.std.specs.Io.KnownBytes.{Consumes, Appends}
 use Rattle.std.proofs.KnownBytes.{Consumes-nil, Consumes-trans, Appends-nil, Appends-trans}
 use Rattle.layout.specs.Choice.{pick}
 use Rattle.records.specs.declared.Record.TheVariants.{Ram}
-use Rattle.records.specs.declared.Decoded.TheVariants.{Good}
 use Rattle.records.specs.Records.{decode}
 use Rattle.replay.specs.Replay.{replay}
 use Rattle.window.specs.declared.Window.{Window}
@@ -72,7 +71,7 @@ module _ (left held : Option (List ℕ)) (s : Run) (m k t u l x y : List ℕ) wh
 -- ---- the whole input
 
 module _ (w : Window) (x : List ℕ) (h : Enough (window_of w x) w.ended) (n : ℕ)
-    (d : decode true (window_of w x) ≡ Good (Ram n) (4 + n)) (g : 4 + n ≤ length (window_of w x)) (s : Run) (b : Begun w n s)
+    (d : decode true (window_of w x) ≡ Ok (Some (Ram n, 4 + n))) (g : 4 + n ≤ length (window_of w x)) (s : Run) (b : Begun w n s)
     (m k t u l y : List ℕ) (fresh : Fresh m t u l) (kinds : k ≡ take n (drop 4 (window_of w x))) where
   pub printed-on-all : (left left1 held held1 : Option (List ℕ)) (r : Run) (m1 k1 t1 u1 l1 x1 y1 : List ℕ) → Holds r x1 y1
       → ReachedOn left left1 held held1 0 s m k t u l x y r m1 k1 t1 u1 l1 x1 y1
@@ -87,14 +86,6 @@ module _ (w : Window) (x : List ℕ) (h : Enough (window_of w x) w.ended) (n : �
         (begun-stands w x h n d g s b m k t u l y fresh kinds) in
         subst (λ (z : Bool). Appends held held1 (a.reached.put ++ pick z [] (take r.at y1))) over a.wrote;
   }
-
-pub printed-on-last : (left left1 held held1 : Option (List ℕ)) (ended : Bool) (bs y : List ℕ) (r : Run) (e : Last)
-    → (e.end ≡ r.at) × (e.ended ≡ r.window.ended)
-    → PrintedOn left left1 held held1 ended bs (record { end = r.at; ended = r.window.ended }) y
-    → PrintedOn left left1 held held1 ended bs e y
-printed-on-last left left1 held held1 ended bs y r e f p =
-    let is : record { end = r.at; ended = r.window.ended } ≡ e = λ i. record { end = sym f.0 i; ended = sym f.1 i } in
-    subst (λ (z : Last). PrintedOn left left1 held held1 ended bs z y) is p
 
 -- the reader had bs, and has `rest` left: `first` was read, and then what is printed behind it
 written-at : (left1 held held1 : Option (List ℕ)) (ended : Bool) (first bs rest y : List ℕ) (r : Last)

@@ -2,7 +2,7 @@
 --     gathered_max, room_min     the most bytes of lines that are kept before a record, and the room that the lines need in all
 --     kept_at at, flushed at y  how many bytes of lines are kept, and those that are handed to the write first
 --     size_of d                 how many bytes were decoded
---     kinds_of r, kinds_in d     N of a first record, and 0 where there is none
+--     kinds_of r, kinds_in d     N of a first record, where there is one
 --     Ends y at l y' e         the line l stands behind those gathered
 --     Went, Begun              the run behind a record, and behind the first one
 --     Fresh m t u l            the tables of a fresh machine
@@ -10,7 +10,7 @@
 --     Reached, Printed, unread, Replayed   so it is after any number of turns, and for the whole input
 --     Untouched, Broken        the machine as it stood, and as some turns left it: where a read or a write fails
 -- Laws: proofs/StandLaws.antt. Assumes nothing: these are definitions.
-use Rattle.std.specs.Prelude.{ℕ, ◌+◌, ◌-◌, ◌*◌, ◌≤◌, ◌<◌, min, ◌≡◌, true, false, List, [], ◌++◌, length, take, replicate, leb}
+use Rattle.std.specs.Prelude.{ℕ, ◌+◌, ◌-◌, ◌*◌, ◌≤◌, ◌<◌, min, ◌≡◌, true, false, List, [], ◌++◌, length, take, replicate, leb, Ok, Err, Option, None, Some}
 use Rattle.layout.specs.Choice.{pick}
 use Rattle.layout.specs.Layout.{desc_bytes}
 use Rattle.book.specs.World.{fresh_state, fresh_used, fresh_lens}
@@ -18,9 +18,7 @@ use Rattle.controller.specs.declared.Controller.{Controller}
 use Rattle.controller.specs.Controller.{fresh_controller}
 use Rattle.records.specs.declared.Record.{Record}
 use Rattle.records.specs.declared.Record.TheVariants.{Ram, Write, Kind, Frame, Steps}
-use Rattle.records.specs.declared.Decoded.{Decoded}
-use Rattle.records.specs.declared.Decoded.TheVariants.{End, Good, Bad}
-use Rattle.records.specs.Records.{record_max, decode}
+use Rattle.records.specs.Records.{Decoded, record_max, decode}
 use Rattle.records.specs.Lines.{line_max}
 use Rattle.replay.specs.declared.Played.{Played}
 use Rattle.replay.specs.Replay.{replay}
@@ -44,21 +42,21 @@ abbrev pub flushed : ℕ → List ℕ → List ℕ
 flushed at y = pick (leb at gathered_max) [] (take at y)
 
 abbrev pub size_of : Decoded → ℕ
-size_of End = 0
-size_of (Good r n) = n
-size_of Bad = 0
+size_of (Ok None) = 0
+size_of (Ok (Some (r, n))) = n
+size_of (Err e) = 0
 
-abbrev pub kinds_of : Record → ℕ
-kinds_of (Ram n) = n
-kinds_of (Write a v) = 0
-kinds_of (Kind b k) = 0
-kinds_of (Frame n) = 0
-kinds_of (Steps e c) = 0
+abbrev pub kinds_of : Record → Option ℕ
+kinds_of (Ram n) = Some n
+kinds_of (Write a v) = None
+kinds_of (Kind b k) = None
+kinds_of (Frame n) = None
+kinds_of (Steps e c) = None
 
-abbrev pub kinds_in : Decoded → ℕ
-kinds_in End = 0
-kinds_in (Good r size) = kinds_of r
-kinds_in Bad = 0
+abbrev pub kinds_in : Decoded → Option ℕ
+kinds_in (Ok None) = None
+kinds_in (Ok (Some (r, size))) = kinds_of r
+kinds_in (Err e) = None
 
 pub record Ends (y : List ℕ) (at : ℕ) (line y' : List ℕ) (end : ℕ) : Type 0 where
   pub room : end ≤ length y'

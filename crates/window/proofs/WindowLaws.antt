@@ -2,36 +2,29 @@
 --     window-part          the bytes of a window, as a part that is lent
 --     length-window        how many they are
 --     window-pass          those behind the first n of them
---     shift-more           one byte more moved to the front
---     refilled-enough, refilled-ended   a window that stays as it is
 --     refilled-read        one that was moved to the front and read into
 --     taken-more           the bytes in front of a buffer, with those that were read behind them
 --     read-is, got-is      what was read, as the part of the window that is new
 --     kept-read            one that was moved to the front, where the read failed
 use Prim.Native.Nat.{ℕ, zero, suc, ◌+◌, ◌-◌, ◌≤◌, ◌<◌}
 use mathlib.Core.Path.{◌≡◌, refl, ap, ◌∙◌, sym}
-use mathlib.Core.Bool.{Bool, true, false, not}
+use mathlib.Core.Bool.{Bool, true, false}
 use mathlib.Core.Logic.{◌⊎◌, inl, inr}
-use mathlib.Core.List.{List, [], ◌∷◌, ◌++◌, append-nil}
+use mathlib.Core.List.{List, [], ◌∷◌, ◌++◌}
 use native.Mathlib.Nat.{zero-add}
-use native.Mathlib.Numerals.{add-one}
 use native.Mathlib.Omega.{arith}
-use lib.ListN.{length, get_or, set, take, drop, length-drop}
-use lib.Seq.{paste, take-paste, paste-suc, length-paste, take-nil, length-take-le}
-use lib.Seq.{length-slice, drop-drop, get_or-drop, take-append-add, take-append-le, get_or-append-add}
+use lib.ListN.{length, take, drop, length-drop}
+use lib.Seq.{paste, take-paste, length-paste, take-nil, length-take-le}
+use lib.Seq.{length-slice, drop-drop, take-append-add, take-append-le}
 use lib.Dec.{ltb}
 use borrow.Author.Tests.{ltb-true, ltb-false, lt-ltb, le-ltb}
-use Rattle.layout.specs.Choice.{pick, both}
+use Rattle.layout.specs.Choice.{pick}
 use Rattle.layout.proofs.ChoiceLaws.{clash}
 use Rattle.std.proofs.Common.{le_refl, drop_at}
 use Rattle.std.proofs.lemmas.Slice.{take-put_mid_below}
 use borrow.Rule.Slice.PartMut.{mid_of, post_of, put_mid, same_len_mid, mid_len}
 use Rattle.window.specs.declared.Window.{Window}
 use Rattle.window.specs.Window.{window_of, Inside, lacks, Refilled, Kept, Passed}
-
-both-no : (a : Bool) → both a false ≡ false
-both-no true = refl
-both-no false = refl
 
 -- room is left behind a bytes, or in what is behind them
 ltb-shift : (t : Bool) (a g n : ℕ) → a ≤ n → ltb g (n - a) ≡ t → ltb g (n - a) ≡ ltb (a + g) n
@@ -60,32 +53,6 @@ window-pass w r n x p =
     ∙ ap (λ (k : ℕ). drop k (take w.len x)) p.from
     ∙ sym (drop-drop n w.from (take w.len x))
 
--- ---- moved to the front
-
--- the byte that is moved next stands where it stood
-shift-reads : (x : List ℕ) (f i : ℕ) → f + i < length x → get_or (paste x 0 (drop f x) i) (f + i) 0 ≡ get_or (drop f x) i 0
-shift-reads x f i h =
-    let front = take i (drop f x) in
-    let n : length front ≡ i = length-take-le i (drop f x) (simp length-drop (omega arith)) in
-    let e : f + i ≡ length front + f = omega arith in
-    let g : 0 + i ≡ i = omega arith in
-    ap (λ (k : ℕ). get_or (front ++ drop (0 + i) x) k 0) e
-    ∙ get_or-append-add front (drop (0 + i) x) f 0
-    ∙ get_or-drop (0 + i) x f 0
-    ∙ ap (λ (k : ℕ). get_or x k 0) (let s : 0 + i + f ≡ f + i = omega arith in s)
-    ∙ sym (get_or-drop f x i 0)
-
-pub shift-more : (x b : List ℕ) (f i : ℕ) → f + i < length x → b ≡ paste x 0 (drop f x) i
-    → set b i (get_or b (f + i) 0) ≡ paste x 0 (drop f x) (i + 1)
-shift-more x b f i h e =
-    let l : i < length (drop f x) = simp length-drop (omega arith) in
-    let z : 0 + i ≡ i = zero-add i in
-    ap (λ (c : List ℕ). set c i (get_or c (f + i) 0)) e
-    ∙ ap (λ (v : ℕ). set (paste x 0 (drop f x) i) i v) (shift-reads x f i h)
-    ∙ ap (λ (k : ℕ). set (paste x 0 (drop f x) i) k (get_or (drop f x) i 0)) (sym z)
-    ∙ paste-suc x 0 (drop f x) i 0 (omega arith) l
-    ∙ ap (λ (k : ℕ). paste x 0 (drop f x) k) (sym (add-one i))
-
 -- ---- filled
 
 pub taken-more : (x ys : List ℕ) (a k n : ℕ) → a ≤ length x → n ≤ length ys → take (a + n) (put_mid a k x ys) ≡ take a x ++ take n ys
@@ -100,27 +67,6 @@ pub got-is : {wanted : ℕ} {w : Window} {x : List ℕ} {r : Window} {y : List �
     → drop (w.len - w.from) (window_of r y) ≡ g.got
 got-is {wanted} {w} {x} g h =
     ap (λ (l : List ℕ). drop (w.len - w.from) l) g.bytes ∙ drop_at (window_of w x) g.got (w.len - w.from) (length-window w x h)
-
-module _ (wanted : ℕ) (w : Window) (x : List ℕ) (h : Inside w x) where
-  refilled-stay : (wanted ≤ length (window_of w x)) ⊎ (w.ended ≡ true) → lacks wanted w ≡ false → Refilled wanted w x w x
-  refilled-stay e f = record {
-    got = [];
-    bytes = sym (append-nil (window_of w x));
-    inside = h;
-    enough = e;
-    stays = λ t. (refl, t);
-    ends = ap (λ (b : Bool). pick b (ltb (w.len - w.from + 0) (length x)) w.ended) (sym f);
-  }
-
-  pub refilled-enough : wanted ≤ w.len - w.from → Refilled wanted w x w x
-  refilled-enough e =
-      refilled-stay (inl (rw (length-window w x h) e))
-      (ap (λ (b : Bool). both b (not w.ended)) (le-ltb (w.len - w.from) wanted e))
-
-  pub refilled-ended : w.ended ≡ true → Refilled wanted w x w x
-  refilled-ended e =
-      refilled-stay (inr e)
-      (ap (λ (b : Bool). both (ltb (w.len - w.from) wanted) (not b)) e ∙ both-no (ltb (w.len - w.from) wanted))
 
 -- moved to the front as x1, and read into behind the bytes that were left: ys stands there, and the first of them were read
 module _ (wanted : ℕ) (w : Window) (x x1 ys : List ℕ) (got : ℕ) (h : Inside w x) (g : wanted ≤ length x)

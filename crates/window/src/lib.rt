@@ -9,13 +9,13 @@
 
 ghost use Rattle.std.specs.Prelude.{◌≡◌, ◌+◌, ◌-◌, ◌≤◌, ◌<◌, length, take, drop, IfOk, OnErr};
 ghost use Rattle.std.specs.Io.KnownBytes.{Consumes, IsAtEnd};
-ghost use Rattle.std.proofs.Math.Seq.{paste};
 ghost use Rattle.window.specs.Window.{window_of, Inside, Refilled, Kept, EndsRight, Passed};
 
 use std::io;
 use std::io::Read;
 
-// The part of a buffer that is still to be taken, and whether the input has been read to its end.
+// The part of a buffer that is still to be taken, and whether the input has been read to its end. The buffer is lent to each call:
+// a window that held it would need a clause on the loan in each of them, and its bytes could not be lent on while they are played.
 #[derive(Clone, Copy)]
 pub struct Window {
     pub from: usize,
@@ -23,78 +23,70 @@ pub struct Window {
     pub ended: bool,
 }
 
-// Moves the bytes from `from` to `len` to the front.
-fn shift(buf: &mut [u8], from: usize, len: usize)
-    requires { (from ≤ len) × (len ≤ length buf.old) }
-    ensures { buf.new ≡ paste buf.old 0 (drop from buf.old) (len - from) }
-{
-    let n = len - from;
-    let mut i: usize = 0;
-    while i < n {
-        buf[i] = buf[from + i];
-        i += 1;
-    }
-}
-
-// Reads until the buffer is full or the input ends, and gives how many bytes stand in front of it: those that were read.
+// Reads until the buffer is full or the input ends, and gives how many bytes stand in front of it: those that were read. An input that
+// ends is no error here, so `read_exact` doesn't do.
 fn read_full<R: Read>(source: &mut R, buf: &mut [u8]) -> io::Result<usize>
     ensures count { IfOk result (λ n. n ≤ length buf.new) }
     ensures bytes { IfOk result (λ n. Consumes (R.remaining source.old) (R.remaining source.new) (take n buf.new)) }
     ensures end { IfOk result (λ n. n < length buf.new → IsAtEnd (R.remaining source.new)) }
 {
-    let mut done: usize = 0;
+    let mut done = 0;
     while done < buf.len() {
-        let n = source.read(&mut buf[done..])?;
-        if n == 0 {
-            return Ok(done);
+        match source.read(&mut buf[done..])? {
+            0 => return Ok(done),
+            n => done += n,
         }
-        done += n;
     }
     Ok(done)
 }
 
-// The window with as many bytes as are wanted, or all that is left of the input. It reads only where there are fewer. An error comes only
-// from such a read; then nothing of the window is lost: its bytes stand in front of the buffer.
-pub fn refill<R: Read>(
-    source: &mut R,
-    buf: &mut [u8],
-    wanted: usize,
-    w: Window,
-) -> io::Result<Window>
-    requires { (wanted ≤ length buf.old) × Inside w buf.old }
-    ensures filled { IfOk result (λ r. Refilled wanted w buf.old r buf.new) }
-    ensures read { IfOk result (λ r. Consumes (R.remaining source.old) (R.remaining source.new)
-        (drop (w.len - w.from) (window_of r buf.new))) }
-    ensures right { IfOk result (λ r. EndsRight w.ended (R.remaining source.old) → EndsRight r.ended (R.remaining source.new)) }
-    ensures failed { OnErr result (Kept wanted w buf.old buf.new) }
-{
-    let from = w.from;
-    let len = w.len;
-    let left = len - from;
-    if wanted <= left {
-        return Ok(w);
+impl Window {
+    // The bytes of the window.
+    pub fn bytes(self, buf: &[u8]) -> &[u8]
+        requires { Inside self buf.now }
+        ensures { result.now ≡ window_of self buf.now }
+    {
+        &buf[self.from..self.len]
     }
-    if w.ended {
-        return Ok(w);
-    }
-    shift(buf, from, len);
-    let room = buf.len() - left;
-    let got = read_full(source, &mut buf[left..])?;
-    Ok(Window {
-        from: 0,
-        len: left + got,
-        ended: got < room,
-    })
-}
 
-// The window behind its first n bytes.
-pub fn pass(w: Window, n: usize) -> Window
-    requires { w.from + n ≤ w.len }
-    ensures { Passed w n result }
-{
-    Window {
-        from: w.from + n,
-        len: w.len,
-        ended: w.ended,
+    // The window with as many bytes as are wanted, or all that is left of the input. It reads only where there are fewer. An error comes
+    // only from such a read; then nothing of the window is lost: its bytes stand in front of the buffer.
+    pub fn refill<R: Read>(
+        self,
+        source: &mut R,
+        buf: &mut [u8],
+        wanted: usize,
+    ) -> io::Result<Window>
+        requires { (wanted ≤ length buf.old) × Inside self buf.old }
+        ensures filled { IfOk result (λ r. Refilled wanted self buf.old r buf.new) }
+        ensures read { IfOk result (λ r. Consumes (R.remaining source.old) (R.remaining source.new)
+            (drop (self.len - self.from) (window_of r buf.new))) }
+        ensures right { IfOk result (λ r. EndsRight self.ended (R.remaining source.old) → EndsRight r.ended (R.remaining source.new)) }
+        ensures failed { OnErr result (Kept wanted self buf.old buf.new) }
+    {
+        let left = self.len - self.from;
+        if wanted <= left || self.ended {
+            return Ok(self);
+        }
+        buf.copy_within(self.from..self.len, 0);
+        let rest = &mut buf[left..];
+        let room = rest.len();
+        let got = read_full(source, rest)?;
+        Ok(Window {
+            from: 0,
+            len: left + got,
+            ended: got < room,
+        })
+    }
+
+    // The window behind its first n bytes.
+    pub fn pass(self, n: usize) -> Window
+        requires { self.from + n ≤ self.len }
+        ensures { Passed self n result }
+    {
+        Window {
+            from: self.from + n,
+            ..self
+        }
     }
 }

@@ -1,76 +1,65 @@
 -- `player::play_input` meets its contract: the first record's kinds and a fresh machine, then the rest of the input. Assumes nothing.
-use Rattle.std.proofs.Common.{◌≤◌, length, ◌∙◌, arith}
+use Rattle.std.proofs.Common.{ℕ, List, length, take, drop, ◌∙◌, sym, refl, ap, arith}
 use Rattle.std.proofs.KnownBytes.{Consumes-nil}
-use Rattle.window.specs.Window.{window_of}
-use Rattle.player.proofs.FirstLaws.{first-is, first-room, kinds-lent, begun-holds, printed-bad, printed-all, printed-last}
-use Rattle.player.proofs.StandLaws.{le_of}
-use Rattle.player.proofs.StreamLaws.{printed-on-all, printed-on-last}
+use lib.Seq.{length-take-le}
+use Rattle.records.proofs.LineLaws.{length-bad_line}
+use Rattle.player.proofs.FirstLaws.{first-of, none-of, first-room, begun-holds, printed-bad}
+use Rattle.player.proofs.StandLaws.{line-room, line-ends, le_of}
+use Rattle.player.proofs.StreamLaws.{printed-on-all}
 use Rattle.player.proofs.play_input.Goals as goal
 
-pub returns-then-n-eq0-clause-printed : goal.returns-then-n-eq0-clause-printed
-returns-then-n-eq0-clause-printed g c =
-    printed-bad c.args.w c.args.input.now _ _ _ _ c.requires.4 c.count_kinds-n.ensures c.if-n-eq0.true c.in_ok-end.ensures.ends
+pub slice_bounds-write_all-end : goal.slice_bounds-write_all-end
+slice_bounds-write_all-end g c = line-room c.put_bad-end.ensures (length-bad_line _) (omega arith)
 
-pub copy_kinds-requires : goal.copy_kinds-requires
-copy_kinds-requires g c =
-    let a = c.args in
-    let p = c.requires in
-    let f = first-is (window_of a.w a.input.now) c.count_kinds-n.result c.count_kinds-n.ensures c.if-n-eq0.false in
-    let r = first-room a.w a.input.now c.count_kinds-n.result p.3 f.1.1 in
-    (omega (arith, r, p.3.within), omega (arith, f.1.0, p.2))
+pub slice_bounds-write_all-end-in_default : goal.slice_bounds-write_all-end-in_default
+slice_bounds-write_all-end-in_default g c =
+    sym (length-take-le _ _ (line-room c.put_bad-end.ensures (length-bad_line _) (omega arith)))
 
-pub begin-first-requires : goal.begin-first-requires
-begin-first-requires g c =
-    let a = c.args in
-    let f = first-is (window_of a.w a.input.now) c.count_kinds-n.result c.count_kinds-n.ensures c.if-n-eq0.false in
-    first-room a.w a.input.now c.count_kinds-n.result c.requires.3 f.1.1
+pub returns-in_default-clause-printed : goal.returns-in_default-clause-printed
+returns-in_default-clause-printed g c =
+    printed-bad c.args.w c.args.input.now _ _ _ c.requires.4 (none-of c.bytes.ensures c.in_default.ensures.count)
+    (line-ends c.put_bad-end.ensures (length-bad_line _) (omega arith))
 
-pub slice_bounds-replay_rest-end : goal.slice_bounds-replay_rest-end
-slice_bounds-replay_rest-end g c =
-    let a = c.args in
-    let f = first-is (window_of a.w a.input.now) c.count_kinds-n.result c.count_kinds-n.ensures c.if-n-eq0.false in
-    le_of f.1.0 (c.copy_kinds.auto.kinds ∙ c.requires.2)
+pub returns-in_default-clause-on : goal.returns-in_default-clause-on
+unfolding returns-in_default-clause-printed
+returns-in_default-clause-on g c = record {
+  printed = returns-in_default-clause-printed g c;
+  read = Consumes-nil _;
+  right = λ h. h;
+  wrote = λ _. c.in_ok-write_all.ensures.bytes;
+}
+
+pub slice_bounds-kinds-end : goal.slice_bounds-kinds-end
+slice_bounds-kinds-end g c = le_of (first-of c.bytes.ensures c.in-Some.ensures.count).few c.requires.2
+
+pub slice_bounds-kinds-end-2 : goal.slice_bounds-kinds-end-2
+slice_bounds-kinds-end-2 g c =
+    sym (length-take-le _ _ (le_of (first-of c.bytes.ensures c.in-Some.ensures.count).few c.requires.2))
+
+pub copy_from_slice-requires : goal.copy_from_slice-requires
+copy_from_slice-requires g c =
+    length-take-le _ _ (le_of (first-of c.bytes.ensures c.in-Some.ensures.count).few c.requires.2)
+
+pub pass-requires : goal.pass-requires
+pass-requires g c =
+    first-room c.args.w c.args.input.now _ c.requires.3 (first-of c.bytes.ensures c.in-Some.ensures.count).room
 
 pub replay_rest-requires : goal.replay_rest-requires
 replay_rest-requires g c =
-    let a = c.args in
     let p = c.requires in
-    let n = c.count_kinds-n.result in
-    let f = first-is (window_of a.w a.input.now) n c.count_kinds-n.ensures c.if-n-eq0.false in
-    let r = first-room a.w a.input.now n p.3 f.1.1 in
-    let b = c.begin-first.ensures in
-    (p.0, p.1, begun-holds a.w n c.begin-first.result a.input.now a.out.now p.3 r b, b.going, omega (arith, b.offset))
-
-pub returns-clause-printed : goal.returns-clause-printed
-returns-clause-printed g c =
-    let a = c.args in
-    let p = c.requires in
-    let n = c.count_kinds-n.result in
-    let x = a.input.now in
-    let f = first-is (window_of a.w x) n c.count_kinds-n.ensures c.if-n-eq0.false in
-    let few : n ≤ length a.kinds.now = le_of f.1.0 p.2 in
-    let k = kinds-lent a.w x a.kinds.now c.copy_kinds.new.kinds n p.3 f.1.1 few c.copy_kinds.ensures in
-    printed-last (window_of a.w x) _ c.in_ok-r.r _ c.last_of.ensures
-    (printed-all a.w x p.4 n f.0 f.1.1 c.begin-first.result c.begin-first.ensures _ _ _ _ _ _
-    p.5 k _ _ _ _ _ _ _ _ c.in_ok-r.ensures.holds c.in_ok-r.ensures.reached)
-
-pub returns-then-n-eq0-clause-on : goal.returns-then-n-eq0-clause-on
-returns-then-n-eq0-clause-on g c = record {
-  printed = printed-bad c.args.w c.args.input.now _ _ _ _ c.requires.4 c.count_kinds-n.ensures c.if-n-eq0.true c.in_ok-end.ensures.ends;
-  read = Consumes-nil _;
-  right = λ h. h;
-  wrote = λ _. c.in_ok-end.ensures.wrote;
-}
+    let f = first-of c.bytes.ensures c.in-Some.ensures.count in
+    (p.0, p.1, begun-holds c.args.w _ _ _ _ p.3 (first-room c.args.w _ _ p.3 f.room)
+    (record { ctl = c.fresh.ensures; at = refl; window = c.pass.ensures; offset = refl; going = refl }), refl, omega arith)
 
 pub returns-clause-on : goal.returns-clause-on
 returns-clause-on g c =
-    let a = c.args in
     let p = c.requires in
-    let n = c.count_kinds-n.result in
-    let x = a.input.now in
-    let f = first-is (window_of a.w x) n c.count_kinds-n.ensures c.if-n-eq0.false in
-    let few : n ≤ length a.kinds.now = le_of f.1.0 p.2 in
-    let k = kinds-lent a.w x a.kinds.now c.copy_kinds.new.kinds n p.3 f.1.1 few c.copy_kinds.ensures in
-    printed-on-last _ _ _ _ _ (window_of a.w x) _ c.in_ok-r.r _ c.last_of.ensures
-    (printed-on-all a.w x p.4 n f.0 f.1.1 c.begin-first.result c.begin-first.ensures _ _ _ _ _ _
-    p.5 k _ _ _ _ _ _ _ _ _ _ _ _ c.in_ok-r.ensures.holds c.in_ok-r.ensures.on)
+    let n = length c.in-Some.listed.now in
+    let f = first-of c.bytes.ensures c.in-Some.ensures.count in
+    let k = c.copy_from_slice.ensures.after ∙ c.in-Some.ensures.kinds ∙ ap (λ (l : List ℕ). take n (drop 4 l)) c.bytes.ensures in
+    printed-on-all c.args.w c.args.input.now p.4 n f.is f.room _
+    (record { ctl = c.fresh.ensures; at = refl; window = c.pass.ensures; offset = refl; going = refl }) _ _ _ _ _ _
+    p.5 k _ _ _ _ _ _ _ _ _ _ _ _ c.in_ok-run.ensures.holds c.in_ok-run.ensures.on
+
+pub returns-clause-printed : goal.returns-clause-printed
+returns-clause-printed g c = (returns-clause-on g c).printed
