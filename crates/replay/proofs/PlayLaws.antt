@@ -1,11 +1,9 @@
 -- The parts put together: what an operation left, and the line that was printed for it. Assumes nothing.
---     write-tells, kind-tells, frame-tells, step-tells   what happened in one operation
---     tells-plays                 what happened, and its line
+--     write-plays, kind-plays, frame-plays, step-goes   what happened in one operation, and its line
 --     goes_none, goes-more        no step; one more behind those made
---     ram-plays, steps-goes       a `Ram` record, a `Steps` record
---     record-plays                the record that was met
+--     ram-plays, steps-plays      a `Ram` record, a `Steps` record
 --     line-end                    how far a line reaches
-use Prim.Native.Nat.{ℕ, zero, suc, ◌+◌, ◌-◌, ◌*◌, ◌≤◌, ◌<◌}
+use Prim.Native.Nat.{ℕ, zero, suc, ◌+◌, ◌≤◌}
 use mathlib.Core.Path.{◌≡◌, refl, ap, ◌∙◌, sym, subst}
 use mathlib.Core.List.{List, [], ◌∷◌, ◌++◌}
 use native.Mathlib.Nat.{add-zero}
@@ -16,18 +14,16 @@ use Rattle.phases.specs.declared.Burst.{Burst}
 use Rattle.phases.specs.declared.Engine.{Engine}
 use Rattle.controller.specs.declared.Controller.{Controller}
 use Rattle.machine.specs.declared.After.{After}
-use Rattle.machine.specs.Machine.{Machine, step, apply, apply_write, apply_kind, apply_frame, apply_step}
+use Rattle.machine.specs.Machine.{Machine, Happened, step, apply, apply_write, apply_kind, apply_frame, apply_step}
 use Rattle.machine.specs.After.{machine_at, Leaves, Moves as Carries}
-use Rattle.records.specs.declared.Record.{Record}
 use Rattle.records.specs.declared.Record.TheVariants.{Ram, Write, Kind, Frame, Steps}
 use Rattle.records.specs.declared.Event.{Event}
 use Rattle.records.specs.declared.Event.TheVariants.{Wrote, Changed, Framed, Moved}
 use Rattle.records.specs.Lines.{line_of, lines_of, line_max, Prints}
 use Rattle.records.proofs.PrintLaws.{prints-then}
-use Rattle.replay.specs.declared.Happening.{Happening}
 use Rattle.replay.specs.declared.Played.{Played}
 use Rattle.replay.specs.Replay.{steps_of, record_of}
-use Rattle.replay.specs.Plays.{Tells, MovesOn, Shows, Plays, Goes}
+use Rattle.replay.specs.Plays.{Plays, Goes}
 
 -- ---- lines
 append-none : (l : List ℕ) → l ++ [] ≡ l
@@ -49,90 +45,53 @@ one_line e {x} {y} {i} {j} p = subst (λ (l : List ℕ). Prints x i l y j) (sym 
 pub line-end : {x y : List ℕ} {i j : ℕ} {l : List ℕ} → Prints x i l y j → length l ≤ line_max → j ≤ i + line_max
 line-end p h = omega (arith, p.ends, h)
 
--- ---- what happened in one operation
-module _ (c : Controller) (m k t u l : List ℕ) (w : After) (m1 k1 t1 u1 l1 : List ℕ) (n : ℕ) (i : n ≡ number_of w.answer) where
-  pub write-tells : (a v : ℕ) → Leaves (apply_write a v (machine_at c m k t u l)) w m1 k1 t1 u1 l1
-      → Tells (record_of (Write a v) (machine_at c m k t u l)) (record { ctl = w.ctl; event = Wrote a n }) m1 k1 t1 u1 l1
-  unfolding record_of
-  write-tells a v h = record {
-    event = ap (λ (z : ℕ). Wrote a z ∷ []) (sym (i ∙ ap number_of h.answer));
-    ctl = h.ctl;
-    mem = h.mem;
-    kinds = h.kinds;
-    state = h.state;
-    used = h.used;
-    lens = h.lens;
+-- ---- what happened in one operation, and its line
+module _ {w : After} {m k t u l : List ℕ} {r : Played} {x : List ℕ} {at : ℕ} {y : List ℕ} (e : r.ctl ≡ w.ctl) where
+  told : (h : Happened) (v v' : Event) → Leaves h w m k t u l → v ≡ v' → Prints x at (line_of v) y r.end
+      → Plays (v' ∷ [], h.machine) r m k t u l x at y
+  told h v v' p q s = record {
+    ctl = e ∙ p.ctl;
+    mem = p.mem;
+    kinds = p.kinds;
+    state = p.state;
+    used = p.used;
+    lens = p.lens;
+    text = subst (λ (z : Event). Prints x at (lines_of (z ∷ [])) y r.end) q (one_line v s);
   }
 
-  pub kind-tells : (d q : ℕ) → Leaves (apply_kind d q (machine_at c m k t u l)) w m1 k1 t1 u1 l1
-      → Tells (record_of (Kind d q) (machine_at c m k t u l)) (record { ctl = w.ctl; event = Changed d n }) m1 k1 t1 u1 l1
-  unfolding record_of
-  kind-tells d q h = record {
-    event = ap (λ (z : ℕ). Changed d z ∷ []) (sym (i ∙ ap number_of h.answer));
-    ctl = h.ctl;
-    mem = h.mem;
-    kinds = h.kinds;
-    state = h.state;
-    used = h.used;
-    lens = h.lens;
-  }
+  module _ (s : Machine) {n : ℕ} (i : n ≡ number_of w.answer) where
+    pub write-plays : (a v : ℕ) → Leaves (apply_write a v s) w m k t u l → Prints x at (line_of (Wrote a n)) y r.end
+        → Plays (record_of (Write a v) s) r m k t u l x at y
+    unfolding record_of
+    write-plays a v p q = told _ _ _ p (ap (λ (z : ℕ). Wrote a z) (i ∙ ap number_of p.answer)) q
 
-pub frame-tells : (n : ℕ) (c : Controller) (r : After) (i : ℕ) → ((m : List ℕ) → Carries (apply_frame n) c m r m) → i ≡ number_of
-    r.answer
-    → (m : List ℕ) → MovesOn (record_of (Frame n)) c m (record { ctl = r.ctl; event = Framed n i }) m
-unfolding record_of
-frame-tells n c r i f e m k t u l =
-    let h = f m k t u l in
-    record {
-      event = ap (λ (z : ℕ). Framed n z ∷ []) (sym (e ∙ ap number_of h.answer));
-      ctl = h.ctl;
-      mem = h.mem;
-      kinds = h.kinds;
-      state = h.state;
-      used = h.used;
-      lens = h.lens;
-    }
+    pub kind-plays : (d v : ℕ) → Leaves (apply_kind d v s) w m k t u l → Prints x at (line_of (Changed d n)) y r.end
+        → Plays (record_of (Kind d v) s) r m k t u l x at y
+    unfolding record_of
+    kind-plays d v p q = told _ _ _ p (ap (λ (z : ℕ). Changed d z) (i ∙ ap number_of p.answer)) q
 
-pub step-tells : (e : Engine) (c : Controller) (m : List ℕ) (r : After) (m1 : List ℕ) → Carries (apply_step e) c m r m1
-    → MovesOn (steps_of e 1) c m (record { ctl = r.ctl; event = Moved r.burst }) m1
-step-tells e c m r m1 f k t u l =
-    let h = f k t u l in
-    record {
-      event = ap (λ (z : Burst). Moved z ∷ []) (sym h.burst);
-      ctl = h.ctl;
-      mem = h.mem;
-      kinds = h.kinds;
-      state = h.state;
-      used = h.used;
-      lens = h.lens;
-    }
+    pub frame-plays : (b : ℕ) → Leaves (apply_frame b s) w m k t u l → Prints x at (line_of (Framed b n)) y r.end
+        → Plays (record_of (Frame b) s) r m k t u l x at y
+    unfolding record_of
+    frame-plays b p q = told _ _ _ p (ap (λ (z : ℕ). Framed b z) (i ∙ ap number_of p.answer)) q
 
--- ---- what happened, and its line
-pub tells-plays : (p : List Event × Machine) (h : Happening) (m k t u l : List ℕ) (r : Played) (x : List ℕ) (at : ℕ) (y : List ℕ)
-    → Tells p h m k t u l → Shows h r x at y → Plays p r m k t u l x at y
-tells-plays p h m k t u l r x at y f s = record {
-  ctl = s.ctl ∙ f.ctl;
-  mem = f.mem;
-  kinds = f.kinds;
-  state = f.state;
-  used = f.used;
-  lens = f.lens;
-  text = subst (λ (es : List Event). Prints x at (lines_of es) y r.end) (sym f.event) (one_line h.event s.text);
-}
+pub step-goes : (e : Engine) (c : Controller) (m : List ℕ) (w : After) (m1 : List ℕ) (r : Played) (x : List ℕ) (at : ℕ) (y : List ℕ)
+    → r.ctl ≡ w.ctl → Carries (apply_step e) c m w m1 → Prints x at (line_of (Moved w.burst)) y r.end
+    → Goes (steps_of e 1) c m r m1 x at y
+step-goes e c m w m1 r x at y f g q k t u l =
+    let p = g k t u l in told f _ _ _ p (ap (λ (z : Burst). Moved z) p.burst) q
 
 -- ---- steps one after another
-pub goes_none : (e : Engine) (n : ℕ) → n ≡ 0 → (c : Controller) (m x : List ℕ) (at : ℕ) → Goes (steps_of e n) c m
-    (record { ctl = c; end = at }) m x at x
-goes_none e n h c m x at k t u l =
-    rw h (record {
-      ctl = refl;
-      mem = refl;
-      kinds = refl;
-      state = refl;
-      used = refl;
-      lens = refl;
-      text = record { ends = sym (add-zero at); bytes = refl };
-    })
+pub goes_none : (e : Engine) (c : Controller) (m x : List ℕ) (at : ℕ) → Goes (steps_of e 0) c m (record { ctl = c; end = at }) m x at x
+goes_none e c m x at k t u l = record {
+  ctl = refl;
+  mem = refl;
+  kinds = refl;
+  state = refl;
+  used = refl;
+  lens = refl;
+  text = record { ends = sym (add-zero at); bytes = refl };
+}
 
 steps-more : (e : Engine) (k : ℕ) (s : Machine)
     → steps_of e (suc k) s ≡ ((steps_of e k s).0 ++ (steps_of e 1 (steps_of e k s).1).0, (steps_of e 1 (steps_of e k s).1).1)
@@ -169,30 +128,6 @@ goes-more e n j h c m r m1 x at y r2 m2 z g f k t u l =
     (sym (ap (λ (i : ℕ). steps_of e i s) h ∙ steps-more e n s))
     (plays-then (steps_of e n s) r m1 k t u l x at y one (steps_of e 1 (steps_of e n s).1) r2 m2 z two)
 
--- how the steps that are left fall, and the room that they need
-pub made_none : (n : ℕ) → n - n ≡ 0
-made_none n = omega arith
-
-pub made_more : (n left : ℕ) → 0 < left → left ≤ n → n - (left - 1) ≡ suc (n - left)
-made_more n left h k = omega (arith, h, k)
-
-pub step_room : (end left at n l l₀ : ℕ) → 0 < left → end + line_max * left ≤ at + line_max * n → n < 256 → at + line_max * 256 ≤ l₀ → l
-    ≡ l₀ → end + line_max ≤ l
-step_room end left at n l l₀ h i j k e = omega (arith, h, i, j, k, e)
-
-pub room-less : (end end' left at n : ℕ) → 0 < left → end + line_max * left ≤ at + line_max * n → end' ≤ end + line_max
-    → end' + line_max * (left - 1) ≤ at + line_max * n
-room-less end end' left at n h i j = omega (arith, h, i, j)
-
-pub room-end : (end left at n : ℕ) → end + line_max * left ≤ at + line_max * n → n < 256 → end ≤ at + line_max * 256
-room-end end left at n i j = omega (arith, i, j)
-
-pub goes-all : (e : Engine) (n left : ℕ) → left ≤ 0 → (c : Controller) (m : List ℕ) (r : Played) (m1 x : List ℕ) (at : ℕ) (y : List ℕ)
-    → Goes (steps_of e (n - left)) c m r m1 x at y → Goes (steps_of e n) c m r m1 x at y
-goes-all e n left h c m r m1 x at y g k t u l =
-    let i : n - left ≡ n = omega (arith, h) in
-    subst (λ (j : ℕ). Plays (steps_of e j (machine_at c m k t u l)) r m1 k t u l x at y) i (g k t u l)
-
 -- ---- one record
 pub ram-plays : (n : ℕ) (c : Controller) (m k t u l x : List ℕ) (at : ℕ)
     → Plays (record_of (Ram n) (machine_at c m k t u l)) (record { ctl = c; end = at }) m k t u l x at x
@@ -207,11 +142,7 @@ ram-plays n c m k t u l x at = record {
   text = record { ends = sym (add-zero at); bytes = refl };
 }
 
-pub steps-goes : (e : Engine) (n : ℕ) (c : Controller) (m : List ℕ) (r : Played) (m1 x : List ℕ) (at : ℕ) (y : List ℕ)
-    → Goes (steps_of e n) c m r m1 x at y → Goes (record_of (Steps e n)) c m r m1 x at y
+pub steps-plays : (e : Engine) (n : ℕ) (s : Machine) {r : Played} {m k t u l x : List ℕ} {at : ℕ} {y : List ℕ}
+    → Plays (steps_of e n s) r m k t u l x at y → Plays (record_of (Steps e n) s) r m k t u l x at y
 unfolding record_of
-steps-goes e n c m r m1 x at y f k t u l = f k t u l
-
-pub record-plays : (v w : Record) → v ≡ w → (s : Machine) (r : Played) (m k t u l x : List ℕ) (at : ℕ) (y : List ℕ)
-    → Plays (record_of w s) r m k t u l x at y → Plays (record_of v s) r m k t u l x at y
-record-plays v w e s r m k t u l x at y p = subst (λ (z : Record). Plays (record_of z s) r m k t u l x at y) (sym e) p
+steps-plays e n s p = p

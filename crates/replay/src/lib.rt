@@ -4,27 +4,19 @@
 
 #![tactic(auto)]
 
-ghost use Rattle.std.specs.Prelude.{List, ℕ, ◌+◌, ◌*◌, ◌≤◌, ◌<◌, length};
+ghost use Rattle.std.specs.Prelude.{◌≡◌, ◌+◌, ◌*◌, ◌≤◌, length};
 ghost use Rattle.machine.specs.After.{machine_at};
-ghost use Rattle.records.specs.declared.Record.TheVariants.{Write, Kind, Frame};
-ghost use Rattle.records.specs.Lines.{line_max, sent_line, Prints};
+ghost use Rattle.records.specs.Lines.{line_max, line_of, sent_line, Prints};
 ghost use Rattle.replay.specs.Replay.{steps_of, record_of};
-ghost use Rattle.replay.specs.Plays.{Tells, MovesOn, Shows, Plays, Goes};
+ghost use Rattle.replay.specs.Plays.{Plays, Goes};
 
 use controller::Controller;
 use guard::answer_number;
 use layout::{Lengths, Words};
-use machine::{apply_frame, apply_kind, apply_step, apply_write};
+use machine::{After, apply_frame, apply_kind, apply_step, apply_write};
 use phases::Engine;
 use records::{Event, Record, put_event, put_sent};
 use registers::State;
-
-// What happened in one operation, and the controller afterwards.
-#[derive(Drop)]
-struct Happening {
-    ctl: Controller,
-    event: Event,
-}
 
 // The controller after a record or some steps, and where the lines end.
 #[derive(Drop)]
@@ -33,82 +25,17 @@ pub struct Played {
     pub end: usize,
 }
 
-// A guest write.
-fn happen_write(
-    a: u32,
-    v: u32,
-    c: Controller,
-    m: &mut [u8],
-    kinds: &[u8],
-    t: &mut State,
-    used: &mut Words,
-    lens: &mut Lengths,
-) -> Happening
-    ensures { Tells (record_of (Write a v)
-        (machine_at c m.old kinds.now t.old used.old lens.old)) result
-        m.new kinds.now t.new used.new lens.new }
-{
-    let x = apply_write(a, v, c, m, kinds, t, used, lens);
-    let answer = x.answer;
-    let ctl = x.ctl;
-    let event = Event::Wrote(a, answer_number(answer));
-    Happening { ctl, event }
-}
-
-// A kind change.
-fn happen_kind(
-    block: u32,
-    kind: u8,
-    c: Controller,
-    m: &[u8],
-    kinds: &mut [u8],
-    t: &mut State,
-    used: &mut Words,
-    lens: &mut Lengths,
-) -> Happening
-    ensures { Tells (record_of (Kind block kind)
-        (machine_at c m.now kinds.old t.old used.old lens.old)) result
-        m.now kinds.new t.new used.new lens.new }
-{
-    let x = apply_kind(block, kind as u32, c, m, kinds, t, used, lens);
-    let answer = x.answer;
-    let ctl = x.ctl;
-    let event = Event::Changed(block, answer_number(answer));
-    Happening { ctl, event }
-}
-
-// A frame.
-fn happen_frame(n: u16, c: Controller) -> Happening
-    ensures { (m : List ℕ) → MovesOn (record_of (Frame n)) c m result m }
-{
-    let x = apply_frame(n as u32, c);
-    let answer = x.answer;
-    let ctl = x.ctl;
-    let event = Event::Framed(n, answer_number(answer));
-    Happening { ctl, event }
-}
-
-// One step.
-fn happen_step(e: Engine, c: Controller, m: &mut [u8]) -> Happening
-    ensures { MovesOn (steps_of e 1) c m.old result m.new }
-{
-    let x = apply_step(e, c, m);
-    let ctl = x.ctl;
-    let burst = x.burst;
-    let event = Event::Moved(burst);
-    Happening { ctl, event }
-}
-
-// The line of what happened.
-fn show(h: Happening, out: &mut [u8], at: usize) -> Played
+// The line of what happened, with the controller after it.
+fn show(ctl: Controller, e: Event, out: &mut [u8], at: usize) -> Played
     requires { at + line_max ≤ length out.old }
     ensures end_bound { result.end ≤ at + line_max }
-    ensures shows { Shows h result out.old at out.new }
+    ensures ctl { result.ctl ≡ ctl }
+    ensures text { Prints out.old at (line_of e) out.new result.end }
 {
-    let event = h.event;
-    let end = put_event(out, at, event);
-    let ctl = h.ctl;
-    Played { ctl, end }
+    Played {
+        ctl,
+        end: put_event(out, at, e),
+    }
 }
 
 // One step, and the line of its burst.
@@ -117,7 +44,8 @@ fn play_step(e: Engine, c: Controller, m: &mut [u8], out: &mut [u8], at: usize) 
     ensures end_bound { result.end ≤ at + line_max }
     ensures goes { Goes (steps_of e 1) c m.old result m.new out.old at out.new }
 {
-    show(happen_step(e, c, m), out, at)
+    let After { ctl, burst, .. } = apply_step(e, c, m);
+    show(ctl, Event::Moved(burst), out, at)
 }
 
 // So many steps of one engine.
@@ -126,11 +54,9 @@ fn play_steps(e: Engine, n: u8, c: Controller, m: &mut [u8], out: &mut [u8], at:
     ensures end_bound { result.end ≤ at + line_max * 256 }
     ensures goes { Goes (steps_of e n) c m.old result m.new out.old at out.new }
 {
-    let mut left = n;
     let mut ran = Played { ctl: c, end: at };
-    while 0 < left {
+    for _ in 0..n {
         ran = play_step(e, ran.ctl, m, out, ran.end);
-        left -= 1;
     }
     ran
 }
@@ -156,13 +82,27 @@ pub fn play(
 {
     match r {
         Record::Ram(_) => Played { ctl: c, end: at },
-        Record::Write(a, v) => show(happen_write(a, v, c, m, kinds, t, used, lens), out, at),
-        Record::Kind(block, kind) => show(
-            happen_kind(block, kind, c, m, kinds, t, used, lens),
-            out,
-            at,
-        ),
-        Record::Frame(n) => show(happen_frame(n, c), out, at),
+        Record::Write(a, v) => {
+            let After { ctl, answer, .. } = apply_write(a, v, c, m, kinds, t, used, lens);
+            show(ctl, Event::Wrote(a, answer_number(answer)), out, at)
+        }
+        Record::Kind(block, kind) => {
+            let After { ctl, answer, .. } = apply_kind(
+                block,
+                u32::from(kind),
+                c,
+                m,
+                kinds,
+                t,
+                used,
+                lens,
+            );
+            show(ctl, Event::Changed(block, answer_number(answer)), out, at)
+        }
+        Record::Frame(n) => {
+            let After { ctl, answer, .. } = apply_frame(u32::from(n), c);
+            show(ctl, Event::Framed(n, answer_number(answer)), out, at)
+        }
         Record::Steps(e, n) => play_steps(e, n, c, m, out, at),
     }
 }

@@ -1,41 +1,26 @@
--- `replay::play` meets its contract: each record by its own function, and its line. Assumes nothing.
-use Rattle.replay.proofs.PlayLaws.{ram-plays, record-plays, steps-goes, tells-plays}
-use native.Mathlib.Omega.{arith}
+-- `replay::play` meets its contract: each record by its own operation, and its line. Assumes nothing.
+use Rattle.replay.proofs.PlayLaws.{ram-plays, write-plays, kind-plays, frame-plays, steps-plays}
 use Rattle.replay.proofs.play.Goals as goal
 
-pub returns-in-Ram : goal.returns-in-Ram
-returns-in-Ram c = record {
-  end_bound = omega arith;
-  plays = record-plays _ _ c.in-Ram.is _ _ _ _ _ _ _ _ _ _ (ram-plays _ _ _ _ _ _ _ _ _);
-}
+pub returns-in-Ram-clause-plays : goal.returns-in-Ram-clause-plays
+returns-in-Ram-clause-plays c = rw c.in-Ram.is (ram-plays _ _ _ _ _ _ _ _ _)
 
-pub returns-in-Write : goal.returns-in-Write
-returns-in-Write c = record {
-  end_bound = omega (arith, c.show.ensures.end_bound);
-  plays = record-plays _ _ c.in-Write.is _ _ _ _ _ _ _ _ _ _
-      (tells-plays _ _ _ _ _ _ _ _ _ _ _ c.happen_write.ensures
-      c.show.ensures.shows);
-}
+pub returns-in-Write-clause-plays : goal.returns-in-Write-clause-plays
+returns-in-Write-clause-plays c = rw c.in-Write.is
+    (write-plays c.show.ensures.ctl _ c.answer_number.ensures _ _ c.apply_write-answer.ensures c.show.ensures.text)
 
-pub returns-in-Kind : goal.returns-in-Kind
-returns-in-Kind c = record {
-  end_bound = omega (arith, c.show-in-Kind.ensures.end_bound);
-  plays = record-plays _ _ c.in-Kind.is _ _ _ _ _ _ _ _ _ _
-      (tells-plays _ _ _ _ _ _ _ _ _ _ _ c.happen_kind.ensures
-      c.show-in-Kind.ensures.shows);
-}
+pub returns-in-Kind-clause-plays : goal.returns-in-Kind-clause-plays
+returns-in-Kind-clause-plays c = rw c.in-Kind.is
+    (kind-plays c.show-in-Kind.ensures.ctl _ c.answer_number-in-Kind.ensures _ _
+    (rw c.from.ensures at c.apply_kind-answer.ensures)
+    c.show-in-Kind.ensures.text)
 
-pub returns-in-Frame : goal.returns-in-Frame
-returns-in-Frame c = record {
-  end_bound = omega (arith, c.show-in-Frame.ensures.end_bound);
-  plays = record-plays _ _ c.in-Frame.is _ _ _ _ _ _ _ _ _ _
-      (tells-plays _ _ _ _ _ _ _ _ _ _ _ (c.happen_frame.ensures _ _ _ _ _)
-      c.show-in-Frame.ensures.shows);
-}
+pub returns-in-Frame-clause-plays : goal.returns-in-Frame-clause-plays
+returns-in-Frame-clause-plays c = let a = c.args in
+    let met = c.apply_frame-answer.ensures a.m.now a.kinds.now a.t.now a.used.now a.lens.now in
+    rw c.in-Frame.is
+    (frame-plays c.show-in-Frame.ensures.ctl _ c.answer_number-in-Frame.ensures _ (rw c.from-in-Frame.ensures at met)
+    c.show-in-Frame.ensures.text)
 
-pub returns-in-Steps : goal.returns-in-Steps
-returns-in-Steps c = record {
-  end_bound = c.play_steps.ensures.end_bound;
-  plays = record-plays _ _ c.in-Steps.is _ _ _ _ _ _ _ _ _ _
-      (steps-goes _ _ _ _ _ _ _ _ _ c.play_steps.ensures.goes _ _ _ _);
-}
+pub returns-in-Steps-clause-plays : goal.returns-in-Steps-clause-plays
+returns-in-Steps-clause-plays c = rw c.in-Steps.is (steps-plays _ _ _ (c.play_steps.ensures.goes _ _ _ _))
