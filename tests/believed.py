@@ -88,7 +88,8 @@ def module(path, crate):
     if not (CRATES / owner).is_dir():
         return None
     if "declared" in rest:
-        return (owner, "declared", rest[rest.index("declared") + 1])
+        # behind the modules that it stands in: a module's name begins small, a type's doesn't
+        return (owner, "declared", next(name for name in rest[rest.index("declared") + 1 :] if name[:1].isupper()))
     if "specs" in rest:
         return (owner, rest[-1], None)
     raise SystemExit(f"{crate}: a definition cites {path}, which is no definition")
