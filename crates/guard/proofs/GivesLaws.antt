@@ -31,8 +31,6 @@ use Rattle.guard.specs.declared.Effect.{Effect}
 use Rattle.guard.specs.declared.Effect.TheVariants.{Plain, Started, Appended}
 use Rattle.guard.specs.declared.Answer.{Answer}
 use Rattle.guard.specs.declared.Answer.TheVariants.{Accepted, Refused}
-use Rattle.guard.specs.declared.Tail.{Tail}
-use Rattle.guard.specs.declared.Tail.TheVariants.{Of, Nobody}
 use Rattle.guard.specs.Answers.{Outcome, accept, refuse, answer_to, world_at, Gives}
 use Rattle.guard.specs.Judges.{judge_start, judge_head, judge_register, tail_in, judge_append, judge_last, judge_word, judge_class}
 use Rattle.guard.specs.Judges.{judge}
@@ -205,7 +203,7 @@ module _ (m k t u l : List ℕ) where
 
   -- ---- an append
 
-  pub last-nobody : (i v : ℕ) {z : Tail} → z ≡ tail_in (word m) i 0 (heads_of t) → z ≡ Nobody
+  pub last-nobody : (i v : ℕ) {z : Option ℕ} → z ≡ tail_in (word m) i 0 (heads_of t) → z ≡ None
       → Gives (judge_last i v here) (Refused 11) m k t u l
   unfolding judge_last
   last-nobody i v e f = gives_as (rw (← e, f) refl) (refused-gives 11)
@@ -231,7 +229,7 @@ module _ (m k t u l : List ℕ) where
     lens = ap (λ (z : ℕ × Uses × List ℕ). z.1.1) e;
   }
 
-  pub last-append : (i v : ℕ) {z : Tail} (q : ℕ) → z ≡ tail_in (word m) i 0 (heads_of t) → z ≡ Of q → {side : Side} → side ≡ side_of q
+  pub last-append : (i v : ℕ) {z : Option ℕ} (q : ℕ) → z ≡ tail_in (word m) i 0 (heads_of t) → z ≡ Some q → {side : Side} → side ≡ side_of q
       → {c : ℕ} → c ≡ channel_of q
       → {n : ℕ} {x : Uses} {m' : List ℕ} → (n, x, m') ≡ appended side k i m (u, l) v → {a : Answer} → a ≡ answer_to (Appended side c) n
       → Gives (judge_last i v here) a m' k t x.0 x.1

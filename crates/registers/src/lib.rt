@@ -44,17 +44,17 @@ const ALL_MARKS: u32 = ((1u64 << MARKS) - 1) as u32;
 const TEARINGS_END: u32 = 1 << QUEUES;
 
 // The last class of each range, by the range's first and that of the next.
-const HDP_LAST: u8 = HDP + QUEUES as u8 - 1;
+pub const HDP_LAST: u8 = HDP + QUEUES as u8 - 1;
 
-const CP_LAST: u8 = CP + QUEUES as u8 - 1;
+pub const CP_LAST: u8 = CP + QUEUES as u8 - 1;
 
-const TEARDOWN_LAST: u8 = RESET - 1;
+pub const TEARDOWN_LAST: u8 = RESET - 1;
 
-const ZERO_LAST: u8 = PASSED - 1;
+pub const ZERO_LAST: u8 = PASSED - 1;
 
-const PASSED_LAST: u8 = UNOFFERED - 1;
+pub const PASSED_LAST: u8 = UNOFFERED - 1;
 
-const UNOFFERED_LAST: u8 = UNGUARDED - 1;
+pub const UNOFFERED_LAST: u8 = UNGUARDED - 1;
 
 // 6 for HDP and CP while initialisation is awaited.
 fn zeroing_fault(v: u32) -> u8
