@@ -1,6 +1,7 @@
 -- The fields of a descriptor's four words. Document 01, "Memory, blocks and descriptors".
 --     bits hi lo w                 the bits hi..lo of a word
 --     sop, eop, owner, eoq, td     the flags of word 3
+--     flag_of f x3                 the flag of word 3 that f names
 --     short_end, long_end            one past the largest length of eleven bits, and of sixteen
 --     length_of side x2             the length in word 2
 --     first_byte side x1 x2 x3      the buffer's first byte
@@ -12,6 +13,8 @@ use Rattle.layout.specs.Choice.{pick}
 use Rattle.layout.specs.Bits.{bit}
 use Rattle.layout.specs.declared.Side.{Side}
 use Rattle.layout.specs.declared.Side.TheVariants.{Transmit, Receive}
+use Rattle.descriptor.specs.declared.Flag.{Flag}
+use Rattle.descriptor.specs.declared.Flag.TheVariants.{Td, Eoq, Owner, Eop, Sop}
 use Rattle.descriptor.specs.declared.Descriptor.{Descriptor}
 
 abbrev pub bits : ℕ → ℕ → ℕ → ℕ
@@ -32,6 +35,13 @@ eoq x3 = bit 28 x3
 
 unfoldable pub td : ℕ → Bool
 td x3 = bit 27 x3
+
+abbrev pub flag_of : Flag → ℕ → Bool
+flag_of Td x3 = td x3
+flag_of Eoq x3 = eoq x3
+flag_of Owner x3 = owner x3
+flag_of Eop x3 = eop x3
+flag_of Sop x3 = sop x3
 
 -- a packet and a receive buffer have a length of eleven bits, a transmit buffer one of sixteen
 abbrev pub short_end : ℕ
