@@ -16,7 +16,9 @@ use borrow.Author.Tests.{not-true, not-false}
 use Rattle.layout.specs.Choice.{pick, both}
 use Rattle.layout.specs.Layout.{desc_first, desc_bytes, in_descriptors, queues, side_of, channel_of}
 use Rattle.layout.specs.Class.{class_at, hdp_class}
+use Rattle.layout.specs.Refusals.{refusal_number}
 use Rattle.layout.specs.declared.Side.{Side}
+use Rattle.layout.specs.declared.refusals.Refusal.{Refusal}
 use Rattle.layout.proofs.ChoiceLaws.{clash, both_left, both_right}
 use Rattle.words.specs.Word.{word, put}
 use Rattle.words.specs.WordSet.{has}
@@ -38,6 +40,10 @@ use Rattle.guard.specs.Guard.{state_fault, admitted, guest_write}
 use Rattle.book.proofs.QuietLaws.{release-quiet}
 use Rattle.guard.specs.Rulings.{handed_over, appended, ruled, free_word, plain_store}
 
+-- a refusal has a number of its own
+pub refusal-some : (r : Refusal) → refusal_number r ≢ 0
+refusal-some r = grind arith
+
 -- a choice by a number that was found
 number-yes : {A : Type 0} (n : ℕ) (x y : A) → n ≡ 0 → pick (eqb n 0) x y ≡ x
 number-yes n x y e = rw (eq-eqb n 0 e) refl
@@ -52,13 +58,13 @@ pick-false : {A : Type 0} (b : Bool) (x y : A) → b ≡ false → pick b x y �
 pick-false b x y e = rw e refl
 
 -- a register judge that found a fault, and one that wrote
-pub ruled-refused : {n f : ℕ} (t t₁ : List ℕ) → n ≡ f → n ≢ 0 → (Refused n, t) ≡ ruled f t₁ t
+pub ruled-refused : {f : ℕ} (r : Refusal) (t t₁ : List ℕ) → refusal_number r ≡ f → (Refused (refusal_number r), t) ≡ ruled f t₁ t
 unfolding ruled
-ruled-refused {n} t t₁ e h = rw (← e) (sym (number-no n _ _ h))
+ruled-refused r t t₁ e = rw (← e) (sym (number-no (refusal_number r) _ _ (refusal-some r)))
 
-pub ruled-wrote : {n f : ℕ} (t : List ℕ) {t₁ t₂ : List ℕ} → n ≡ f → n ≡ 0 → t₂ ≡ t₁ → (Accepted Plain, t₂) ≡ ruled f t₁ t
+pub ruled-wrote : {f : ℕ} (t : List ℕ) {t₁ t₂ : List ℕ} → 0 ≡ f → t₂ ≡ t₁ → (Accepted Plain, t₂) ≡ ruled f t₁ t
 unfolding ruled
-ruled-wrote {n} t e h w = rw (← e, w) (sym (number-yes n _ _ h))
+ruled-wrote t e w = rw (← e, w) refl
 
 pub answer-refused : {n : ℕ} (e : Effect) → n ≢ 0 → Refused n ≡ answer_to e n
 unfolding answer_to
@@ -99,7 +105,7 @@ module _ (m k t u l : List ℕ) where
 
   -- ---- a start
 
-  module _ (q p : ℕ) {side : Side} {n : ℕ} {x : Uses} (s : side ≡ side_of q) (o : (n, x) ≡ handed_over side k (word m) (u, l) p) where
+  module _ (q p : ℕ) {side : Side} {x : Uses} (s : side ≡ side_of q) {n : ℕ} (o : (n, x) ≡ handed_over side k (word m) (u, l) p) where
     handed : (n, x) ≡ handed_over (side_of q) k (word m) (u, l) p
     handed = o ∙ ap (λ (y : Side). handed_over y k (word m) (u, l) p) s
 
@@ -142,26 +148,26 @@ module _ (m k t u l : List ℕ) where
 
   -- ---- HDP
 
-  module _ (q v : ℕ) {n : ℕ} (e : n ≡ head_number t q v) where
-    pub head-refused : n ≢ 0 → Gives (judge_head q v here) (Refused n) m k t u l
+  module _ (q v : ℕ) where
+    pub head-refused : (r : Refusal) → refusal_number r ≡ head_number t q v → Gives (judge_head q v here) (Refused (refusal_number r)) m k t u l
     unfolding judge_head
-    head-refused h = gives_as (rw (← e) (number-no n _ _ h)) (refused-gives n)
+    head-refused r e = gives_as (rw (← e) (number-no (refusal_number r) _ _ (refusal-some r))) (refused-gives (refusal_number r))
 
-    module _ (h : n ≡ 0) {a : Bool} (f : a ≡ awaiting t) where
+    module _ (e : 0 ≡ head_number t q v) {a : Bool} (f : a ≡ awaiting t) where
       pub head-zeroed : a ≡ true → {t' : List ℕ} → t' ≡ head_written t q v → Gives (judge_head q v here) (Accepted Plain) m k t' u l
       unfolding judge_head
       head-zeroed i w =
-          gives_as (rw (← e, ← f) (number-yes n _ _ h ∙ pick_true a _ _ i))
+          gives_as (rw (← e, ← f) (pick_true a _ _ i))
           (record { answer = refl; mem = refl; kinds = refl; state = w; used = refl; lens = refl })
 
       pub head-busy : a ≡ false → head_of t q ≢ 0 → Gives (judge_head q v here) (Refused 10) m k t u l
       unfolding judge_head
-      head-busy i g = gives_as (rw (← e, ← f) (number-yes n _ _ h ∙ pick-false a _ _ i ∙ number-no (head_of t q) _ _ g)) (refused-gives 10)
+      head-busy i g = gives_as (rw (← e, ← f) (pick-false a _ _ i ∙ number-no (head_of t q) _ _ g)) (refused-gives 10)
 
       pub head-start : a ≡ false → head_of t q ≡ 0 → {r : Answer} {t' u' l' : List ℕ} → Gives (judge_start q v here) r m k t' u' l'
           → Gives (judge_head q v here) r m k t' u' l'
       unfolding judge_head
-      head-start i g c = gives_as (rw (← e, ← f) (number-yes n _ _ h ∙ pick-false a _ _ i ∙ number-yes (head_of t q) _ _ g)) c
+      head-start i g c = gives_as (rw (← e, ← f) (pick-false a _ _ i ∙ number-yes (head_of t q) _ _ g)) c
 
   -- ---- any register
 
@@ -291,20 +297,20 @@ module _ (m k t u l : List ℕ) where
   refused-at true false n o e h = rw e (refused-gives 2)
   refused-at false g n o e h = rw e (refused-gives 1)
 
-  passed-at : (f g : Bool) (n : ℕ) (o : Outcome) → n ≡ pick f (pick g 0 2) 1 → n ≡ 0
-      → pick (not f) (refuse 1 here) (pick g o (refuse 2 here)) ≡ o
-  passed-at true true n o e h = refl
-  passed-at true false n o e h = absurd (omega arith)
-  passed-at false g n o e h = absurd (omega arith)
+  passed-at : (f g : Bool) (o : Outcome) → 0 ≡ pick f (pick g 0 2) 1 → pick (not f) (refuse 1 here) (pick g o (refuse 2 here)) ≡ o
+  passed-at true true o e = refl
+  passed-at true false o e = absurd (omega arith)
+  passed-at false g o e = absurd (omega arith)
 
-  module _ (act : World → Outcome) {n : ℕ} (e : n ≡ state_fault m k t u l) where
-    pub admitted-refused : n ≢ 0 → Gives (admitted here act) (Refused n) m k t u l
+  module _ (act : World → Outcome) where
+    pub admitted-refused : (r : Refusal) → refusal_number r ≡ state_fault m k t u l → Gives (admitted here act) (Refused (refusal_number r)) m k t u l
     unfolding admitted state_fault unfit sound_world
-    admitted-refused h = refused-at (fit_parts m k) (sound_book (word m) t u l) n (act (release here)) e h
+    admitted-refused r e =
+        refused-at (fit_parts m k) (sound_book (word m) t u l) (refusal_number r) (act (release here)) e (refusal-some r)
 
-    pub admitted-passed : n ≡ 0 → admitted here act ≡ act (release here)
+    pub admitted-passed : 0 ≡ state_fault m k t u l → admitted here act ≡ act (release here)
     unfolding admitted state_fault unfit sound_world
-    admitted-passed h = passed-at (fit_parts m k) (sound_book (word m) t u l) n (act (release here)) e h
+    admitted-passed e = passed-at (fit_parts m k) (sound_book (word m) t u l) (act (release here)) e
 
   pub admitted-sound : (act : World → Outcome) → unfit here ≡ false → sound_world here ≡ true → admitted here act ≡ act (release here)
   unfolding admitted
@@ -314,24 +320,25 @@ module _ (m k t u l : List ℕ) where
   unfolding unfit fit_parts
   fit-size f = eqb-true (length m) desc_bytes (both_left _ _ (not-false _ f))
 
-  pub zero-size : {n : ℕ} → n ≡ state_fault m k t u l → n ≡ 0 → length m ≡ desc_bytes
+  pub zero-size : 0 ≡ state_fault m k t u l → length m ≡ desc_bytes
   unfolding state_fault fit_parts
-  zero-size {n} e h = at (eqb (length m) desc_bytes) (fit_kinds k) refl e
+  zero-size e = at (eqb (length m) desc_bytes) (fit_kinds k) refl e
     where
-      at : (b c : Bool) → eqb (length m) desc_bytes ≡ b → n ≡ pick (both b c) (pick (sound_book (word m) t u l) 0 2) 1
+      at : (b c : Bool) → eqb (length m) desc_bytes ≡ b → 0 ≡ pick (both b c) (pick (sound_book (word m) t u l) 0 2) 1
           → length m ≡ desc_bytes
       at true c x y = eqb-true (length m) desc_bytes x
-      at false c x y = absurd (omega (arith, h, y))
+      at false c x y = absurd (omega arith)
 
-  pub write-refused : (a v : ℕ) {n : ℕ} → n ≡ state_fault m k t u l → n ≢ 0 → Gives (guest_write a v here) (Refused n) m k t u l
+  pub write-refused : (a v : ℕ) (r : Refusal) → refusal_number r ≡ state_fault m k t u l
+      → Gives (guest_write a v here) (Refused (refusal_number r)) m k t u l
   unfolding guest_write
-  write-refused a v e h = admitted-refused (λ s. judge a v s) e h
+  write-refused a v r e = admitted-refused (λ s. judge a v s) r e
 
-  pub write-gives : (a v : ℕ) {n : ℕ} → n ≡ state_fault m k t u l → n ≡ 0 → {r : Answer} {m' t' u' l' : List ℕ}
+  pub write-gives : (a v : ℕ) → 0 ≡ state_fault m k t u l → {r : Answer} {m' t' u' l' : List ℕ}
       → Gives (judge a v (release here)) r m' k t' u' l'
       → Gives (guest_write a v here) r m' k t' u' l'
   unfolding guest_write
-  write-gives a v e h g = gives_as (admitted-passed (λ s. judge a v s) e h) g
+  write-gives a v e g = gives_as (admitted-passed (λ s. judge a v s) e) g
 
   pub write-sound : (a v : ℕ) → unfit here ≡ false → sound_world here ≡ true → {r : Answer} {m' t' u' l' : List ℕ}
       → Gives (judge a v (release here)) r m' k t' u' l'

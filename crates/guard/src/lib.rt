@@ -13,7 +13,7 @@ ghost use Rattle.layout.specs.Refusals.{fault};
 ghost use Rattle.words.specs.Word.{word};
 ghost use Rattle.registers.specs.Table.{awaiting, set_tearing, heads_of};
 ghost use Rattle.registers.specs.Rules.{ack_fault, ack_written, teardown_number, reset_number, reset_written, zero_fault};
-ghost use Rattle.chain.specs.Chain.{place_of, chain_of};
+ghost use Rattle.chain.specs.Chain.{place_of, chain_of, told, verdict_number};
 ghost use Rattle.book.specs.Quiet.{quiet};
 ghost use Rattle.book.specs.World.{fit_parts, sound_book, unfit, sound_world, release};
 ghost use Rattle.guard.specs.Answers.{world_at, Gives, answer_to, answer_of, number_of};
@@ -23,7 +23,7 @@ ghost use Rattle.guard.specs.Guard.{state_fault, guest_write};
 
 use blocks::kinds_fit;
 use book::{is_quiet, is_sound, release_book, take_chain};
-use chain::{check_chain, check_single, is_single};
+use chain::{Fault, check_chain, check_single, is_single};
 use layout::{
     CONTROL, CP, DESC_BYTES, DESC_FIRST, DESC_WORDS, HDP, Lengths, Memory, PASSED, QUEUES, RESET,
     Refusal, Side, Slot, TEARDOWN, UNOFFERED, Words, class_at, is_descriptor, side_of, slot_at,
@@ -90,16 +90,23 @@ pub fn answer_to(e: Effect, n: u8) -> Answer
     }
 }
 
+// What the chain check says, by its refusal alone.
+fn refusal(c: Result<(), Fault>) -> Result<(), Refusal>
+    ensures { fault result ≡ verdict_number (told c) }
+{
+    c.map_err(|f| f.refusal)
+}
+
 // What is said of the chain from p, over the words in use. Only a chain of more than one descriptor needs the set of words met.
 fn check_used(s: Side, p: u32, m: &Memory, kinds: &[u8], used: &Words) -> Result<(), Refusal>
     ensures { fault result ≡ (chain_of kinds.now (word m.now) (place_of s) used.now p).0 }
 {
     if is_single(m, p) {
-        return check_single(s, m, kinds, used, p).map_err(|f| f.refusal);
+        return refusal(check_single(s, m, kinds, used, p));
     }
     let mut met = [0u8; DESC_WORDS];
     copy_set(used, &mut met);
-    check_chain(s, m, kinds, &mut met, p).map_err(|f| f.refusal)
+    refusal(check_chain(s, m, kinds, &mut met, p))
 }
 
 // The HDP judge's chain, from p: refused, or handed over.
