@@ -10,7 +10,8 @@
 --     write-refused, write-gives, write-sound   a whole guest write
 --     store_word, store-sound       a store to a free word, where there is nothing to release
 --     state-1, state-2, state-0     1 and 2 as the functions find them
-use Rattle.std.proofs.Common.{◌≡◌, ℕ, ◌+◌, ◌-◌, ◌/◌, ◌%◌, ◌<◌, ◌≤◌, Bool, true, false, not, eqb, ltb, ◌≢◌, List, length, sym, refl, ap, ◌∙◌}
+use Rattle.std.proofs.Common.{◌≡◌, ℕ, ◌+◌, ◌-◌, ◌/◌, ◌%◌, ◌<◌, ◌≤◌, Bool, true, false, not, eqb, ltb, ◌≢◌, List, Option, Some, None, length, sym}
+use Rattle.std.proofs.Common.{refl, ap, ◌∙◌}
 use Rattle.std.proofs.Common.{arith, le-ltb, lt-ltb, eq-eqb, ne_eqb, eqb-true}
 use borrow.Author.Tests.{not-true, not-false}
 use Rattle.layout.specs.Choice.{pick, both}
@@ -297,7 +298,7 @@ module _ (m k t u l : List ℕ) where
   refused-at true false n o e h = rw e (refused-gives 2)
   refused-at false g n o e h = rw e (refused-gives 1)
 
-  passed-at : (f g : Bool) (o : Outcome) → 0 ≡ pick f (pick g 0 2) 1 → pick (not f) (refuse 1 here) (pick g o (refuse 2 here)) ≡ o
+  passed-at : (f g : Bool) (o : Outcome) → ◌≡◌ {A = ℕ} 0 (pick f (pick g 0 2) 1) → pick (not f) (refuse 1 here) (pick g o (refuse 2 here)) ≡ o
   passed-at true true o e = refl
   passed-at true false o e = absurd (omega arith)
   passed-at false g o e = absurd (omega arith)
@@ -324,7 +325,7 @@ module _ (m k t u l : List ℕ) where
   unfolding state_fault fit_parts
   zero-size e = at (eqb (length m) desc_bytes) (fit_kinds k) refl e
     where
-      at : (b c : Bool) → eqb (length m) desc_bytes ≡ b → 0 ≡ pick (both b c) (pick (sound_book (word m) t u l) 0 2) 1
+      at : (b c : Bool) → eqb (length m) desc_bytes ≡ b → ◌≡◌ {A = ℕ} 0 (pick (both b c) (pick (sound_book (word m) t u l) 0 2) 1)
           → length m ≡ desc_bytes
       at true c x y = eqb-true (length m) desc_bytes x
       at false c x y = absurd (omega arith)
