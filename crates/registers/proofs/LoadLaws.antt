@@ -1,48 +1,69 @@
--- The loading of the registers, word by word: what `load_registers` keeps. Assumes nothing.
---     Loading c t₀ k t      the words below k are loaded, and loading the rest leaves what loading all of them leaves
---     loading-first, -next, -last   at the start, after one word more, at the end
-use Prim.Native.Nat.{ℕ, zero, suc, ◌+◌, ◌<◌, ◌≤◌}
-use mathlib.Core.Path.{◌≡◌, refl, ap, ◌∙◌, sym}
-use mathlib.Core.Bool.{Bool, false}
-use mathlib.Core.List.{List, [], ◌∷◌, ◌++◌}
-use native.Mathlib.Numerals.{add-one}
-use native.Mathlib.Omega.{arith}
-use lib.ListN.{get_or, set, take, drop, take-append-drop}
-use borrow.Author.Tests.{le-leb, le-ltb, ne_eqb}
+-- The loading of the registers: the HDPs and the CPs are copied in one piece, the reset bit by itself. Assumes nothing.
+--     piece, copied      the table after the first, and after both
+--     registers-loaded   it is what `loaded` says, word by word
+use Rattle.std.proofs.Common.{◌≡◌, ℕ, ◌-◌, ◌<◌, ◌≤◌, ◌≢◌, Bool, true, false, List, length, get_or, set, arith, rules, refl, sym, ◌∙◌}
+use Rattle.std.proofs.lemmas.List.{ext_get_or, places, get_or-set_same, get_or-set_other}
+use borrow.Author.Tests.{le-leb, ltb-true, ltb-false, eqb-true, eqb-false}
+use borrow.Rule.Slice.PartMut.{put_mid, mid_of}
+use lib.Dec.{eqb, ltb}
 use Rattle.layout.specs.Choice.{pick}
-use Rattle.registers.specs.Table.{state_words, hdp_at, marks_at, bit_at, is_device, loaded_from, loaded}
+use Rattle.registers.specs.Table.{state_words, hdp_at, marks_at, bit_at, is_device, loaded}
+use Rattle.registers.proofs.TableLaws.{length-loaded, get_or-loaded, is_device-head, is_device-register}
 
-pub record Loading (c t₀ : List ℕ) (k : ℕ) (t : List ℕ) : Type 0 where
-  pub small : k ≤ state_words
-  pub rest : take k t ++ loaded_from k c (drop k t) ≡ loaded c t₀
+-- the HDPs and the CPs are p, the rest is t's
+abbrev pub piece : List ℕ → List ℕ → List ℕ
+piece t p = put_mid (hdp_at 0) (marks_at - hdp_at 0) t p
 
-pub loading-first : (c t : List ℕ) → Loading c t 0 t
-unfolding loaded
-loading-first c t = record { small = omega arith; rest = refl }
+abbrev pub copied : List ℕ → List ℕ → List ℕ → List ℕ
+copied c t p = set (piece t p) bit_at (get_or c bit_at 0)
 
--- one word more: word i, at place k of the list
-next_word : (i k : ℕ) (c t : List ℕ) → let u = set t k (pick (is_device i) (get_or c i 0) (get_or t k 0)) in
-    take (suc k) u ++ loaded_from (i + 1) c (drop (suc k) u) ≡ take k t ++ loaded_from i c (drop k t)
-next_word i zero c [] = refl
-next_word i zero c (x ∷ t) = refl
-next_word i (suc k) c [] = refl
-next_word i (suc k) c (x ∷ t) = ap (λ (r : List ℕ). x ∷ r) (next_word i k c t)
+module _ (c t p : List ℕ) (l : length t ≡ state_words) (m : length c ≡ state_words) (e : p ≡ mid_of (hdp_at 0) (marks_at - hdp_at 0) c) where
+  piece-length : length (piece t p) ≡ length t
+  piece-length = rw e (search (rules, places))
 
-pub loading-next : {c t₀ : List ℕ} {k : ℕ} {t : List ℕ} {d : Bool} {v : ℕ} → k < state_words → d ≡ is_device k
-    → v ≡ pick d (get_or c k 0) (get_or t k 0) → Loading c t₀ k t → Loading c t₀ (k + 1) (set t k v)
-loading-next {c} {t₀} {k} {t} {d} {v} h g e w = record {
-  small = omega arith;
-  rest = rw (e, g, add-one k) ((rw (add-one k) at (next_word k k c t)) ∙ w.rest);
-}
+  copied-length : length (copied c t p) ≡ length t
+  copied-length = rw e (search (rules, places))
 
--- past the table nothing is the device's
-past-device : (k : ℕ) → state_words ≤ k → is_device k ≡ false
-past-device k h = simp (le-leb (hdp_at 0) k (omega arith), le-ltb k marks_at (omega arith), ne_eqb k bit_at (λ e. omega arith))
+  below : (k : ℕ) → k < hdp_at 0 → get_or (piece t p) k 0 ≡ get_or t k 0
+  below k h = rw e (search (rules, places))
 
-loaded-past : (k : ℕ) (c t : List ℕ) → state_words ≤ k → loaded_from k c t ≡ t
-loaded-past k c [] h = refl
-loaded-past k c (x ∷ t) h = rw (past-device k h, loaded-past (k + 1) c t (omega arith))
+  within : (k : ℕ) → hdp_at 0 ≤ k → k < marks_at → get_or (piece t p) k 0 ≡ get_or c k 0
+  within k h g = rw e (search (rules, places))
 
-pub loading-last : {c t₀ : List ℕ} {k : ℕ} {t : List ℕ} → state_words ≤ k → Loading c t₀ k t → t ≡ loaded c t₀
-loading-last {c} {t₀} {k} {t} h w =
-    sym (take-append-drop k t) ∙ ap (λ (r : List ℕ). take k t ++ r) (sym (loaded-past k c (drop k t) h)) ∙ w.rest
+  above : (k : ℕ) → marks_at ≤ k → get_or (piece t p) k 0 ≡ get_or t k 0
+  above k h = rw e (search (rules, places))
+
+  word-copied : (k : ℕ) → k < state_words → get_or (copied c t p) k 0 ≡ pick (is_device k) (get_or c k 0) (get_or t k 0)
+  word-copied k h = at (ltb k (hdp_at 0)) (ltb k marks_at) (eqb k bit_at) refl refl refl
+    where
+      told : (b : Bool) → is_device k ≡ b → get_or (copied c t p) k 0 ≡ pick b (get_or c k 0) (get_or t k 0)
+          → get_or (copied c t p) k 0 ≡ pick (is_device k) (get_or c k 0) (get_or t k 0)
+      told b d w = rw d w
+
+      other : k ≢ bit_at → get_or (copied c t p) k 0 ≡ get_or (piece t p) k 0
+      other n = get_or-set_other (piece t p) bit_at k _ 0 n
+
+      at : (x y z : Bool) → ltb k (hdp_at 0) ≡ x → ltb k marks_at ≡ y → eqb k bit_at ≡ z
+          → get_or (copied c t p) k 0 ≡ pick (is_device k) (get_or c k 0) (get_or t k 0)
+      at true y z a b d =
+          let g : k < hdp_at 0 = ltb-true k (hdp_at 0) a in
+          told false (is_device-head k g) (other (λ e. omega arith) ∙ below k g)
+      at false true z a b d =
+          let f : hdp_at 0 ≤ k = ltb-false k (hdp_at 0) a in
+          let g : k < marks_at = ltb-true k marks_at b in
+          told true (is_device-register k f g) (other (λ e. omega arith) ∙ within k f g)
+      at false false true a b d =
+          let f : hdp_at 0 ≤ k = ltb-false k (hdp_at 0) a in
+          let g : k ≡ bit_at = eqb-true k bit_at d in
+          told true (simp (le-leb (hdp_at 0) k f, b, d)) (rw g (get_or-set_same (piece t p) bit_at _ 0 (omega (arith, l, piece-length))))
+      at false false false a b d =
+          let f : hdp_at 0 ≤ k = ltb-false k (hdp_at 0) a in
+          told false (simp (le-leb (hdp_at 0) k f, b, d)) (other (eqb-false k bit_at d) ∙ above k (ltb-false k marks_at b))
+
+pub registers-loaded : (c t p : List ℕ) → length t ≡ state_words → length c ≡ state_words
+    → p ≡ mid_of (hdp_at 0) (marks_at - hdp_at 0) c → copied c t p ≡ loaded c t
+registers-loaded c t p l m e =
+    let n : length (copied c t p) ≡ length t = copied-length c t p l m e in
+    ext_get_or 0 (copied c t p) (loaded c t) (n ∙ sym (length-loaded c t)) (λ k h.
+    let g : k < length t = omega (arith, n, h) in
+    word-copied c t p l m e k (omega (arith, l)) ∙ sym (get_or-loaded c t k g))

@@ -5,19 +5,17 @@
 
 #![tactic(auto)]
 
-ghost use Rattle.std.specs.Prelude.{◌≡◌, Bool, List, ℕ, ◌+◌, ◌<◌};
+ghost use Rattle.std.specs.Prelude.{◌≡◌, ◌<◌};
 ghost use Rattle.layout.specs.Choice.{pick};
-ghost use Rattle.layout.specs.Layout.{queues};
-ghost use Rattle.registers.specs.Table.{awaiting, any_tearing, reset_of, bit_of, tearing_of, set_mark, set_tearing, flags_fit, is_device};
-ghost use Rattle.registers.specs.Table.{loaded};
-ghost use Rattle.registers.specs.Rules.{zeroing_fault, head_fault, ack_fault, teardown_fault, reset_fault, zero_fault, tear_queue};
-ghost use Rattle.registers.specs.Rules.{head_number, teardown_number, reset_number, register_fault, head_written, ack_written};
-ghost use Rattle.registers.specs.Rules.{reset_written, written};
+ghost use Rattle.layout.specs.Layout.{queues, queue_of};
+ghost use Rattle.layout.specs.Refusals.{fault};
+ghost use Rattle.registers.specs.Table.{awaiting, any_tearing, reset_of, bit_of, tearing_of, set_mark, set_tearing, flags_fit, loaded};
+ghost use Rattle.registers.specs.Rules.{zeroing_fault, ack_fault, zero_fault, tear_queue, head_number, teardown_number, reset_number};
+ghost use Rattle.registers.specs.Rules.{register_fault, head_written, ack_written, reset_written, written};
 
 use layout::{
-    BAD_VALUE, BUSY, CHANNELS, CONTROL, CP, HDP, MARKS, NOT_GUARDED, NOT_INITIALISED, NOT_OFFERED,
-    PASSED, QUEUES, RESET, RESET_PENDING, TEARDOWN, TEARDOWN_DONE, TEARDOWN_PENDING, UNGUARDED,
-    UNOFFERED, has_bit, set_bit,
+    CHANNELS, CONTROL, CP, HDP, MARKS, PASSED, QUEUES, RESET, Refusal, Side, TEARDOWN,
+    TEARDOWN_DONE, UNGUARDED, UNOFFERED, has_bit, set_bit, side_of,
 };
 
 // How many words the table has, and which word is which; the head of queue q is word q. The last two are spare.
@@ -57,110 +55,63 @@ pub const PASSED_LAST: u8 = UNOFFERED - 1;
 pub const UNOFFERED_LAST: u8 = UNGUARDED - 1;
 
 // 6 for HDP and CP while initialisation is awaited.
-fn zeroing_fault(v: u32) -> u8
-    ensures { result ≡ zeroing_fault v }
+fn zeroing_fault(v: u32) -> Result<(), Refusal>
+    ensures { fault result ≡ zeroing_fault v }
 {
     if v == 0 {
-        return 0;
+        Ok(())
+    } else {
+        Err(Refusal::NotInitialised)
     }
-    NOT_INITIALISED
 }
 
-// HDP of a queue.
-fn head_fault(awaiting: bool, reset: bool, tearing: bool, hdp: u32, v: u32) -> u8
-    ensures { result ≡ head_fault awaiting reset tearing hdp v }
+// 7 and 8, once nothing is awaited.
+fn pending_fault(reset: bool, tearing: bool) -> Result<(), Refusal>
+    ensures { fault result ≡ pick reset 7 (pick tearing 8 0) }
 {
-    if awaiting {
-        return zeroing_fault(v);
-    }
     if reset {
-        return RESET_PENDING;
+        return Err(Refusal::ResetPending);
     }
     if tearing {
-        return TEARDOWN_PENDING;
+        return Err(Refusal::TeardownPending);
     }
-    if v == 0 {
-        return BAD_VALUE;
-    }
-    if hdp == 0 {
-        return 0;
-    }
-    BUSY
+    Ok(())
 }
 
 // CP of any queue.
-pub fn ack_fault(awaiting: bool, v: u32) -> u8
-    ensures { result ≡ ack_fault awaiting v }
+#[tactic(auto, unfolding(crate::specs::Rules::ack_fault))]
+pub fn ack_fault(awaiting: bool, v: u32) -> Result<(), Refusal>
+    ensures { fault result ≡ ack_fault awaiting v }
 {
-    if awaiting {
-        return zeroing_fault(v);
-    }
-    0
-}
-
-// TX_TEARDOWN or RX_TEARDOWN, of the queue that the value names.
-fn teardown_fault(awaiting: bool, reset: bool, tearing: bool, cp: u32, v: u32) -> u8
-    ensures { result ≡ teardown_fault awaiting reset tearing cp v }
-{
-    if awaiting {
-        return NOT_INITIALISED;
-    }
-    if reset {
-        return RESET_PENDING;
-    }
-    if tearing {
-        return TEARDOWN_PENDING;
-    }
-    if CHANNELS as u32 <= v {
-        return BAD_VALUE;
-    }
-    if cp == TEARDOWN_DONE {
-        return BUSY;
-    }
-    0
-}
-
-// CPDMA_SOFT_RESET; tearing: a teardown of any queue.
-fn reset_fault(awaiting: bool, reset: bool, tearing: bool, v: u32) -> u8
-    ensures { result ≡ reset_fault awaiting reset tearing v }
-{
-    if awaiting {
-        return NOT_INITIALISED;
-    }
-    if reset {
-        return RESET_PENDING;
-    }
-    if tearing {
-        return TEARDOWN_PENDING;
-    }
-    if v == 1 {
-        return 0;
-    }
-    BAD_VALUE
+    if awaiting { zeroing_fault(v) } else { Ok(()) }
 }
 
 // DMACONTROL and RX_BUFFER_OFFSET.
-pub fn zero_fault(v: u32) -> u8
-    ensures { result ≡ zero_fault v }
+#[tactic(auto, unfolding(crate::specs::Rules::zero_fault))]
+pub fn zero_fault(v: u32) -> Result<(), Refusal>
+    ensures { fault result ≡ zero_fault v }
 {
     if v == 0 {
-        return 0;
+        Ok(())
+    } else {
+        Err(Refusal::BadValue)
     }
-    BAD_VALUE
 }
 
-// The queue that the value v names at the teardown register of a side: 0 transmit, 1 receive.
-pub fn tear_queue(side: usize, v: u32) -> usize
-    requires { side < 2 }
-    ensures { (result ≡ tear_queue side v) × (result < queues) }
+// The queue that the value v names at the teardown register of a side; a value that names no channel is asked of the side's first.
+#[tactic(auto, unfolding(crate::specs::Rules::tear_queue))]
+pub fn tear_queue(side: Side, v: u32) -> usize
+    ensures { (result ≡ tear_queue (queue_of side 0) v) × (result < queues) }
 {
-    if v < CHANNELS as u32 {
-        return 2 * (v as usize) + side;
+    let channel = if v < CHANNELS as u32 { v as usize } else { 0 };
+    match side {
+        Side::Transmit => 2 * channel,
+        Side::Receive => 2 * channel + 1,
     }
-    side
 }
 
 // Whether any register is not yet zeroed.
+#[tactic(auto, unfolding(crate::specs::Table::awaiting))]
 pub fn is_awaiting(t: &State) -> bool
     ensures { result ≡ awaiting t.now }
 {
@@ -176,6 +127,7 @@ pub fn is_tearing(t: &State, q: usize) -> bool
 }
 
 // Whether teardown is pending for some queue.
+#[tactic(auto, unfolding(crate::specs::Table::any_tearing))]
 pub fn is_any_tearing(t: &State) -> bool
     ensures { result ≡ any_tearing t.now }
 {
@@ -183,6 +135,7 @@ pub fn is_any_tearing(t: &State) -> bool
 }
 
 // Whether reset is pending.
+#[tactic(auto, unfolding(crate::specs::Table::reset_of))]
 pub fn is_resetting(t: &State) -> bool
     ensures { result ≡ reset_of t.now }
 {
@@ -190,6 +143,7 @@ pub fn is_resetting(t: &State) -> bool
 }
 
 // The reset bit, as its register reads.
+#[tactic(auto, unfolding(crate::specs::Table::bit_of))]
 pub fn has_reset_bit(t: &State) -> bool
     ensures { result ≡ bit_of t.now }
 {
@@ -197,66 +151,87 @@ pub fn has_reset_bit(t: &State) -> bool
 }
 
 // Whether the flags are flags: 2 where not.
+#[tactic(auto, unfolding(crate::specs::Table::flags_fit))]
 pub fn are_flags(t: &State) -> bool
     ensures { result ≡ flags_fit t.now }
 {
-    if ALL_MARKS < t[MARKS_AT] {
-        return false;
-    }
-    if TEARINGS_END <= t[TEARING_AT] {
-        return false;
-    }
-    t[RESET_AT] <= 1
+    t[MARKS_AT] <= ALL_MARKS && t[TEARING_AT] < TEARINGS_END && t[RESET_AT] <= 1
 }
 
-// The number of a write of v to HDP of queue q.
-pub fn head_number(t: &State, q: usize, v: u32) -> u8
+// The refusal of a write of v to HDP of queue q.
+#[tactic(auto, unfolding(crate::specs::Rules::head_fault))]
+pub fn head_number(t: &State, q: usize, v: u32) -> Result<(), Refusal>
     requires { q < queues }
-    ensures { result ≡ head_number t.now q v }
+    ensures { fault result ≡ head_number t.now q v }
 {
-    head_fault(
-        is_awaiting(t),
-        is_resetting(t),
-        is_tearing(t, q),
-        t[HDP_AT + q],
-        v,
-    )
+    if is_awaiting(t) {
+        return zeroing_fault(v);
+    }
+    pending_fault(is_resetting(t), is_tearing(t, q))?;
+    if v == 0 {
+        return Err(Refusal::BadValue);
+    }
+    if t[HDP_AT + q] == 0 {
+        Ok(())
+    } else {
+        Err(Refusal::Busy)
+    }
 }
 
-// The number of a write of v to a teardown register, where it names queue q.
-pub fn teardown_number(t: &State, q: usize, v: u32) -> u8
+// The refusal of a write of v to a teardown register, where it names queue q.
+#[tactic(auto, unfolding(crate::specs::Rules::teardown_fault))]
+pub fn teardown_number(t: &State, q: usize, v: u32) -> Result<(), Refusal>
     requires { q < queues }
-    ensures { result ≡ teardown_number t.now q v }
+    ensures { fault result ≡ teardown_number t.now q v }
 {
-    teardown_fault(
-        is_awaiting(t),
-        is_resetting(t),
-        is_tearing(t, q),
-        t[CP_AT + q],
-        v,
-    )
+    if is_awaiting(t) {
+        return Err(Refusal::NotInitialised);
+    }
+    pending_fault(is_resetting(t), is_tearing(t, q))?;
+    if CHANNELS as u32 <= v {
+        return Err(Refusal::BadValue);
+    }
+    if t[CP_AT + q] == TEARDOWN_DONE {
+        Err(Refusal::Busy)
+    } else {
+        Ok(())
+    }
 }
 
-// The number of a write of v to the reset register.
-pub fn reset_number(t: &State, v: u32) -> u8
-    ensures { result ≡ reset_number t.now v }
+// The refusal of a write of v to the reset register.
+#[tactic(auto, unfolding(crate::specs::Rules::reset_fault))]
+pub fn reset_number(t: &State, v: u32) -> Result<(), Refusal>
+    ensures { fault result ≡ reset_number t.now v }
 {
-    reset_fault(is_awaiting(t), is_resetting(t), is_any_tearing(t), v)
+    if is_awaiting(t) {
+        return Err(Refusal::NotInitialised);
+    }
+    pending_fault(is_resetting(t), is_any_tearing(t))?;
+    if v == 1 {
+        Ok(())
+    } else {
+        Err(Refusal::BadValue)
+    }
 }
 
-// The number of a write of v to a register of class n, or 0.
-pub fn register_fault(t: &State, n: u8, v: u32) -> u8
-    ensures { result ≡ register_fault t.now n v }
+// The refusal of a write of v to a register of class n.
+#[tactic(auto, unfolding(crate::specs::Rules::register_fault, crate::specs::Rules::by_class, layout::specs::Layout::side_of))]
+pub fn register_fault(t: &State, n: u8, v: u32) -> Result<(), Refusal>
+    ensures { fault result ≡ register_fault t.now n v }
 {
     match n {
         HDP..=HDP_LAST => head_number(t, (n - HDP) as usize, v),
         CP..=CP_LAST => ack_fault(is_awaiting(t), v),
-        TEARDOWN..=TEARDOWN_LAST => teardown_number(t, tear_queue((n - TEARDOWN) as usize, v), v),
+        TEARDOWN..=TEARDOWN_LAST => teardown_number(
+            t,
+            tear_queue(side_of((n - TEARDOWN) as usize), v),
+            v,
+        ),
         RESET => reset_number(t, v),
         CONTROL..=ZERO_LAST => zero_fault(v),
-        PASSED..=PASSED_LAST => 0,
-        UNOFFERED..=UNOFFERED_LAST => NOT_OFFERED,
-        _ => NOT_GUARDED,
+        PASSED..=PASSED_LAST => Ok(()),
+        UNOFFERED..=UNOFFERED_LAST => Err(Refusal::NotOffered),
+        _ => Err(Refusal::NotGuarded),
     }
 }
 
@@ -269,19 +244,20 @@ fn set_mark(t: &mut State, k: usize)
 }
 
 // v is written to HDP of queue q.
+#[tactic(auto, unfolding(crate::specs::Rules::head_written))]
 pub fn write_head(t: &mut State, q: usize, v: u32)
     requires { q < queues }
     ensures { t.new ≡ head_written t.old q v }
 {
-    if is_awaiting(t) {
-        t[HDP_AT + q] = v;
-        set_mark(t, q);
-        return;
-    }
+    let awaiting = is_awaiting(t);
     t[HDP_AT + q] = v;
+    if awaiting {
+        set_mark(t, q);
+    }
 }
 
 // v is written to CP of queue q.
+#[tactic(auto, unfolding(crate::specs::Rules::ack_written))]
 pub fn write_ack(t: &mut State, q: usize, v: u32)
     requires { q < queues }
     ensures { t.new ≡ ack_written t.old q v }
@@ -289,12 +265,9 @@ pub fn write_ack(t: &mut State, q: usize, v: u32)
     if is_awaiting(t) {
         t[CP_AT + q] = v;
         set_mark(t, QUEUES + q);
-        return;
+    } else if v == t[CP_AT + q] {
+        t[CP_AT + q] = 0;
     }
-    if v != t[CP_AT + q] {
-        return;
-    }
-    t[CP_AT + q] = 0;
 }
 
 // Teardown becomes pending for queue q.
@@ -314,45 +287,26 @@ pub fn begin_reset(t: &mut State)
 }
 
 // The table after a write of v, without a fault, to a register of class n.
+#[tactic(auto, unfolding(crate::specs::Rules::written, crate::specs::Rules::by_class, layout::specs::Layout::side_of))]
 pub fn write_register(t: &mut State, n: u8, v: u32)
     ensures { t.new ≡ written t.old n v }
 {
     match n {
         HDP..=HDP_LAST => write_head(t, (n - HDP) as usize, v),
         CP..=CP_LAST => write_ack(t, (n - CP) as usize, v),
-        TEARDOWN..=TEARDOWN_LAST => begin_teardown(t, tear_queue((n - TEARDOWN) as usize, v)),
+        TEARDOWN..=TEARDOWN_LAST => begin_teardown(
+            t,
+            tear_queue(side_of((n - TEARDOWN) as usize), v),
+        ),
         RESET => begin_reset(t),
         _ => {}
     }
-}
-
-// Whether word k is one of the device's registers.
-fn is_device(k: usize) -> bool
-    ensures { result ≡ is_device k }
-{
-    if k < HDP_AT {
-        return false;
-    }
-    if k < MARKS_AT {
-        return true;
-    }
-    k == BIT_AT
-}
-
-// One of two words.
-fn choose(first: bool, a: u32, b: u32) -> u32
-    ensures { result ≡ pick first a b }
-{
-    if first { a } else { b }
 }
 
 // The registers in the table are those of c: they are the device's, and are read anew before each call.
 pub fn load_registers(t: &mut State, c: &State)
     ensures { t.new ≡ loaded c.now t.old }
 {
-    let mut k: usize = 0;
-    while k < STATE {
-        t[k] = choose(is_device(k), c[k], t[k]);
-        k += 1;
-    }
+    t[HDP_AT..MARKS_AT].copy_from_slice(&c[HDP_AT..MARKS_AT]);
+    t[BIT_AT] = c[BIT_AT];
 }
