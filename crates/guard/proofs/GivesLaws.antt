@@ -97,6 +97,15 @@ store_word w t u a e h =
     let free = not-true _ (both_right (eqb (a % 4) 0) _ g) in
     (eqb-true (a % 4) 0 (both_left _ _ g), both_left (in_descriptors a) _ f, free, both_right (free_word a u) (quiet w t) p)
 
+-- and a word that is one
+pub store-here : (w : ℕ → ℕ) (t u : List ℕ) (a k : ℕ) → in_descriptors a ≡ true → k ≡ (a - desc_first) / 4 → a % 4 ≡ 0 → has u k ≡ false
+    → quiet w t ≡ true
+    → plain_store a w t u ≡ true
+unfolding free_word
+store-here w t u a k i e h n q =
+    let free : has u ((a - desc_first) / 4) ≡ false = ap (has u) (sym e) ∙ n in
+    simp (i, eq-eqb (a % 4) 0 h, free, q)
+
 module _ (m k t u l : List ℕ) where
   abbrev here : World
   here = world_at m k t u l

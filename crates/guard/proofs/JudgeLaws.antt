@@ -2,14 +2,14 @@
 --     last_of-is, last_none, last-stop, last-go   the last descriptor of a queue, step by step, by the numbers of words
 --     last-test, last-no                         whether it begins at a word
 --     tail-bound                                 it is one of them
-use Rattle.std.proofs.Common.{◌≡◌, ℕ, zero, suc, ◌+◌, ◌<◌, ◌≤◌, Bool, true, false, eqb, cond, List, [], ◌∷◌, length, take, sym, Option, Some, None}
+use Rattle.std.proofs.Common.{◌≡◌, ℕ, zero, suc, ◌+◌, ◌-◌, ◌/◌, ◌<◌, ◌≤◌, Bool, true, false, eqb, cond, List, [], ◌∷◌, length, take, sym, Option, Some, None}
 use Rattle.std.specs.List.{position_from}
 use Rattle.std.proofs.lemmas.List.{length-take}
 use Rattle.std.proofs.Common.{refl, ap, ◌∙◌, add-one, arith, eq-eqb, ne_eqb, eqb-true}
 use borrow.Author.Tests.{eqb-false}
 use Rattle.layout.specs.Choice.{pick}
-use Rattle.layout.specs.Layout.{good_ptr, word_of, addr, desc_words}
-use Rattle.layout.proofs.PointerLaws.{good_ptr-is, word_of-addr}
+use Rattle.layout.specs.Layout.{desc_first, good_ptr, word_of, addr, desc_words, in_descriptors}
+use Rattle.layout.proofs.PointerLaws.{good_ptr-is, word_of-addr, in_descriptors-bounds}
 use Rattle.guard.specs.Judges.{last_from, last_of, is_last, tail_in}
 
 -- ---- the last descriptor
@@ -79,3 +79,14 @@ tail-lt w k n (h ∷ hs) j e = at (is_last w h k) (tail_in w k (n + 1) hs) (λ f
 -- a queue that was found is one of them
 pub tail-bound : (w : ℕ → ℕ) (k n : ℕ) (t : List ℕ) (j : ℕ) → tail_in w k 0 (take n t) ≡ Some j → j < n
 tail-bound w k n t j e = let l = tail-lt w k 0 (take n t) j e in omega (arith, length-take n t)
+
+-- ---- which word
+-- a word that was found at an address lies in descriptor memory
+pub word-found : (a k : ℕ) → ◌≡◌ {A = Option ℕ} (Some k) (pick (in_descriptors a) (Some ((a - desc_first) / 4)) None)
+    → (in_descriptors a ≡ true) × (k ≡ (a - desc_first) / 4) × (k < desc_words)
+word-found a k e = at (in_descriptors a) refl e
+  where
+    at : (b : Bool) → in_descriptors a ≡ b → ◌≡◌ {A = Option ℕ} (Some k) (pick b (Some ((a - desc_first) / 4)) None)
+        → (in_descriptors a ≡ true) × (k ≡ (a - desc_first) / 4) × (k < desc_words)
+    at true i f = let j : k ≡ (a - desc_first) / 4 = cc in (i, j, omega (arith, in_descriptors-bounds a i))
+    at false i f = cc

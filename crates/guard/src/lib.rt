@@ -432,8 +432,8 @@ pub fn state_fault(m: &[u8], kinds: &[u8], t: &State, used: &Words, lens: &Lengt
 
 // The word at a, if a write there is a store and nothing else.
 fn stored_word(a: u32, m: &Memory, t: &State, used: &Words) -> Option<usize>
-    ensures { result
-        ≡ pick (plain_store a (word m.now) t.now used.now) (Some ((a - desc_first) / 4)) None }
+    ensures { IfSome result (λ k. (k ≡ (a - desc_first) / 4) × (k < desc_words)
+        × (plain_store a (word m.now) t.now used.now ≡ true)) }
 {
     let k = word_at(a)?;
     if a % 4 == 0 && !is_used(used, k) && is_quiet(m, t) {
