@@ -87,11 +87,10 @@ gives_as e g = record {
 }
 
 -- what a store to a free word tells
-pub store_word : (w : ℕ → ℕ) (t u : List ℕ) (a : ℕ) {b : Bool} → b ≡ plain_store a w t u → b ≡ true
+store_word : (w : ℕ → ℕ) (t u : List ℕ) (a : ℕ) → plain_store a w t u ≡ true
     → (a % 4 ≡ 0) × (in_descriptors a ≡ true) × (has u ((a - desc_first) / 4) ≡ false) × (quiet w t ≡ true)
 unfolding free_word
-store_word w t u a e h =
-    let p = sym e ∙ h in
+store_word w t u a p =
     let f = both_left (free_word a u) (quiet w t) p in
     let g = both_right (in_descriptors a) _ f in
     let free = not-true _ (both_right (eqb (a % 4) 0) _ g) in
@@ -219,10 +218,10 @@ module _ (m k t u l : List ℕ) where
 
   -- ---- an append
 
-  pub last-nobody : (i v : ℕ) {z : Option ℕ} → z ≡ tail_in (word m) i 0 (heads_of t) → z ≡ None
+  pub last-nobody : (i v : ℕ) → None ≡ tail_in (word m) i 0 (heads_of t)
       → Gives (judge_last i v here) (Refused 11) m k t u l
   unfolding judge_last
-  last-nobody i v e f = gives_as (rw (← e, f) refl) (refused-gives 11)
+  last-nobody i v e = gives_as (rw (← e) refl) (refused-gives 11)
 
   append_at : (b : Bool) (j i v : ℕ) (y : Uses) (f : Effect) {n : ℕ} {x : Uses} {m' : List ℕ} {a : Answer} → eqb j 0 ≡ b
       → (n, x, m') ≡ pick {A = ℕ × Uses × List ℕ} b (0, y, put m i v) (j, (u, l), m) → a ≡ answer_to f n
@@ -245,13 +244,13 @@ module _ (m k t u l : List ℕ) where
     lens = ap (λ (z : ℕ × Uses × List ℕ). z.1.1) e;
   }
 
-  pub last-append : (i v : ℕ) {z : Option ℕ} (q : ℕ) → z ≡ tail_in (word m) i 0 (heads_of t) → z ≡ Some q → {side : Side} → side ≡ side_of q
+  pub last-append : (i v : ℕ) (q : ℕ) → Some q ≡ tail_in (word m) i 0 (heads_of t) → {side : Side} → side ≡ side_of q
       → {c : ℕ} → c ≡ channel_of q
       → {n : ℕ} {x : Uses} {m' : List ℕ} → (n, x, m') ≡ appended side k i m (u, l) v → {a : Answer} → a ≡ answer_to (Appended side c) n
       → Gives (judge_last i v here) a m' k t x.0 x.1
   unfolding judge_last judge_append appended
-  last-append i v q e f {side} s {c} h o g =
-      gives_as (rw (← e, f) refl)
+  last-append i v q e {side} s {c} h o g =
+      gives_as (rw (← e) refl)
       (append_at (eqb (chain_of k (word m) (place_of (side_of q)) u v).0 0) _ i v _ (Appended (side_of q) (channel_of q)) refl
       (o ∙ ap (λ (y : Side). appended y k i m (u, l) v) s) (g ∙ rw (s, h) refl))
 
@@ -358,13 +357,15 @@ module _ (m k t u l : List ℕ) where
 
   -- ---- a store and nothing else
 
-  pub store-sound : (a v : ℕ) → unfit here ≡ false → sound_world here ≡ true → {b : Bool} → b ≡ plain_store a (word m) t u → b ≡ true
-      → {m' : List ℕ} → m' ≡ put m ((a - desc_first) / 4) v → Gives (guest_write a v here) (Accepted Plain) m' k t u l
-  store-sound a v f s e h p =
-      let w = store_word (word m) t u a e h in
+  pub store-sound : (a v : ℕ) → unfit here ≡ false → sound_world here ≡ true → {i : ℕ} → i ≡ (a - desc_first) / 4
+      → plain_store a (word m) t u ≡ true
+      → {m' : List ℕ} → m' ≡ put m i v → Gives (guest_write a v here) (Accepted Plain) m' k t u l
+  store-sound a v f s {i} e h p =
+      let w = store_word (word m) t u a h in
+      let free : has u i ≡ false = ap (has u) e ∙ w.2 in
       write-sound a v f s
       (released-gives a v (release-quiet here w.3)
-      (address_word a v w.0 refl w.1 refl (word-free ((a - desc_first) / 4) v w.2 p)))
+      (address_word a v w.0 refl w.1 e (word-free i v free p)))
 
   -- ---- 1 and 2, as the functions find them
 
@@ -385,3 +386,13 @@ module _ (m k t u l : List ℕ) where
 pub parts-size : (m k : List ℕ) {f : Bool} → f ≡ fit_parts m k → f ≡ true → length m ≡ desc_bytes
 unfolding fit_parts
 parts-size m k e h = eqb-true (length m) desc_bytes (both_left _ _ (sym e ∙ h))
+
+-- ---- descriptor memory by another name
+module _ (m k t u l : List ℕ) (a v : ℕ) {m₁ : List ℕ} {r : Answer} {m' k' t' u' l' : List ℕ} (e : m₁ ≡ m) where
+  pub write-same : Gives (guest_write a v (world_at m₁ k t u l)) r m' k' t' u' l'
+      → Gives (guest_write a v (world_at m k t u l)) r m' k' t' u' l'
+  write-same g = rw (← e) g
+
+  pub released-same : Gives (judge a v (release (world_at m₁ k t u l))) r m' k' t' u' l'
+      → Gives (judge a v (release (world_at m k t u l))) r m' k' t' u' l'
+  released-same g = rw (← e) g

@@ -90,3 +90,10 @@ word-found a k e = at (in_descriptors a) refl e
         → (in_descriptors a ≡ true) × (k ≡ (a - desc_first) / 4) × (k < desc_words)
     at true i f = let j : k ≡ (a - desc_first) / 4 = cc in (i, j, omega (arith, in_descriptors-bounds a i))
     at false i f = cc
+
+pub word-none : (a : ℕ) → ◌≡◌ {A = Option ℕ} None (pick (in_descriptors a) (Some ((a - desc_first) / 4)) None) → in_descriptors a ≡ false
+word-none a e = at (in_descriptors a) refl e
+  where
+    at : (b : Bool) → in_descriptors a ≡ b → ◌≡◌ {A = Option ℕ} None (pick b (Some ((a - desc_first) / 4)) None) → in_descriptors a ≡ false
+    at true i f = cc
+    at false i f = i
