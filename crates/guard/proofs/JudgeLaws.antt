@@ -2,10 +2,9 @@
 --     last_of-is, last_none, last-stop, last-go   the last descriptor of a queue, step by step, by the numbers of words
 --     last-test, last-no                         whether it begins at a word
 --     tail-bound                                 it is one of them
-use Rattle.std.proofs.Common.{◌≡◌, ℕ, zero, suc, ◌+◌, ◌-◌, ◌/◌, ◌<◌, ◌≤◌, Bool, true, false, eqb, cond, List, [], ◌∷◌, length, take, sym, Option, Some, None}
-use Rattle.std.specs.List.{position_from}
+use Rattle.std.proofs.Common.{◌≡◌, ℕ, zero, suc, ◌+◌, ◌-◌, ◌/◌, ◌<◌, ◌≤◌, Bool, true, false, eqb, List, [], ◌∷◌, length, take, sym, Option, Some, None}
 use Rattle.std.proofs.lemmas.List.{length-take}
-use Rattle.std.proofs.Common.{refl, ap, ◌∙◌, add-one, arith, eq-eqb, ne_eqb, eqb-true}
+use Rattle.std.proofs.Common.{refl, ap, ◌∙◌, arith, eq-eqb, ne_eqb, eqb-true}
 use borrow.Author.Tests.{eqb-false}
 use Rattle.layout.specs.Choice.{pick}
 use Rattle.layout.specs.Layout.{desc_first, good_ptr, word_of, addr, desc_words, in_descriptors}

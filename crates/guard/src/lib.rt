@@ -110,7 +110,14 @@ fn check_used(s: Side, p: u32, m: &Memory, kinds: &[u8], used: &Words) -> Result
 }
 
 // The HDP judge's chain, from p: refused, or handed over.
-fn hand_over(s: Side, p: u32, m: &Memory, kinds: &[u8], used: &mut Words, lens: &mut Lengths) -> Result<(), Refusal>
+fn hand_over(
+    s: Side,
+    p: u32,
+    m: &Memory,
+    kinds: &[u8],
+    used: &mut Words,
+    lens: &mut Lengths,
+) -> Result<(), Refusal>
     ensures { (fault result, (used.new, lens.new))
         ≡ handed_over s kinds.now (word m.now) (used.old, lens.old) p }
 {
@@ -418,7 +425,13 @@ fn is_sound_book(m: &Memory, t: &State, used: &Words, lens: &Lengths) -> bool
 }
 
 // 1 or 2, by which every call on this state is refused.
-pub fn state_fault(m: &[u8], kinds: &[u8], t: &State, used: &Words, lens: &Lengths) -> Result<(), Refusal>
+pub fn state_fault(
+    m: &[u8],
+    kinds: &[u8],
+    t: &State,
+    used: &Words,
+    lens: &Lengths,
+) -> Result<(), Refusal>
     ensures { fault result ≡ state_fault m.now kinds.now t.now used.now lens.now }
 {
     if !is_fit(m, kinds) {

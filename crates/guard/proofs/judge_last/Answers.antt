@@ -12,7 +12,7 @@ returns-in_default c = last-nobody _ _ _ _ _ _ _ c.in_default.ensures
 
 pub overflow_cast-result : goal.overflow_cast-result
 overflow_cast-result c = let a = c.args in
-    record { fits = omega (arith, tail-bound (word a.m.now) a.k queues a.t.now _ (sym c.in-Some.ensures)); }
+    record { fits = omega (arith, tail-bound (word a.m.now) a.k queues a.t.now _ (sym c.in-Some.ensures)) }
 
 pub returns-in_err-judge_append : goal.returns-in_err-judge_append
 returns-in_err-judge_append c =

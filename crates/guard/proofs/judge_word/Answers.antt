@@ -11,9 +11,9 @@ pub returns-then-word_of-ne0 : goal.returns-then-word_of-ne0
 returns-then-word_of-ne0 c =
     let h = sym c.is_used.ensures ∙ c.if-not-is_used.false in
     elim c.then-word_of-ne0.branch [
-      then-word_of-ne0-via-then-word_of-ne0 w ↦ word-busy _ _ _ _ _ _ _ h (λ z. w.if-word_of-ne0.true (c.word_of.ensures ∙ z))
-    | then-word_of-ne0-via-else-word_of-ne0+then-v-eq0 w ↦
-        word-zero _ _ _ _ _ _ _ h (sym c.word_of.ensures ∙ w.if-word_of-ne0.false) w.if-v-eq0.true
+      | then-word_of-ne0-via-then-word_of-ne0 w ↦ word-busy _ _ _ _ _ _ _ h (λ z. w.if-word_of-ne0.true (c.word_of.ensures ∙ z))
+      | then-word_of-ne0-via-else-word_of-ne0+then-v-eq0 w ↦
+          word-zero _ _ _ _ _ _ _ h (sym c.word_of.ensures ∙ w.if-word_of-ne0.false) w.if-v-eq0.true
     ]
 
 pub returns : goal.returns

@@ -15,7 +15,7 @@ returns-in_default c =
 pub loop-preserved : goal.loop-preserved
 loop-preserved c =
     last-go (word c.args.m.now) (desc_words - c.loop.counter) _ c.word_of.ensures (desc_words - (c.loop.counter + 1)) (omega arith)
-        c.in-Some.ensures.0 c.in-Some.ensures.1 ∙ c.loop.invariant
+    c.in-Some.ensures.0 c.in-Some.ensures.1 ∙ c.loop.invariant
 
 pub returns : goal.returns
 returns c = sym (last_none (word c.args.m.now) (desc_words - c.loop.counter) _ (omega arith)) ∙ c.loop.invariant
