@@ -31,7 +31,10 @@ const LAST_WORD: usize = DESC_WORDS - 1;
 fn is_touching(m: &Memory, i: usize, n: u16, b: u32) -> bool
     ensures { result ≡ touches b (word m.now (i + 1)) n }
 {
-    n != 0 && i < LAST_WORD && touches_block(b, word_of(m, i + 1), u32::from(n))
+    if n == 0 || LAST_WORD <= i {
+        return false;
+    }
+    touches_block(b, word_of(m, i + 1), u32::from(n))
 }
 
 // Whether a receive buffer in the book, at its handed-over length, touches block b.
@@ -42,6 +45,7 @@ fn in_reception(m: &Memory, lens: &[u16], b: u32) -> bool
 }
 
 // 18 to 21 for the change of block b to kind k.
+#[tactic(auto, unfolding(crate::specs::Kinds::kind_number))]
 fn kind_fault(b: u32, k: u32, m: &Memory, kinds: &[u8], lens: &Lengths) -> Result<(), Refusal>
     ensures { fault result ≡ kind_number b k (word m.now) lens.now kinds.now }
 {
