@@ -55,11 +55,13 @@ take_at m s y z = cc
 
 -- a step depends on the values alone: what it gave on those of the record is the channel's step
 module _ (ch : ℕ) (c : Controller) (m x : List ℕ) {q p k : ℕ} (there : ch < channels) where
-  pub sent : {held : Bool} {r : Option (Step Sending)} → q ≡ queue_of Sides.Transmit ch → held ≡ held_back c q → p ≡ hdp_of c.state q → k ≡ cp_of c.state q
+  pub sent : {held : Bool} {r : Option (Step Sending)} → q ≡ queue_of Sides.Transmit ch → held ≡ held_back c q
+      → p ≡ hdp_of c.state q → k ≡ cp_of c.state q
       → (r, x) ≡ T.send_step held m (tx_of c ch) p k → send_moved ch (r, x) c m ≡ on_channel ch c m (transmit_step ch c m)
   unfolding transmit_step
   sent e w f g s =
-      let at = send_at m (tx_of c ch) (w ∙ ap (λ (n : ℕ). held_back c n) e) (f ∙ ap (λ (n : ℕ). hdp_of c.state n) e)
+      let at = send_at m (tx_of c ch) (w ∙ ap (λ (n : ℕ). held_back c n) e)
+      (f ∙ ap (λ (n : ℕ). hdp_of c.state n) e)
       (g ∙ ap (λ (n : ℕ). cp_of c.state n) e) in
       ap (λ (y : Option (Step Sending) × List ℕ). send_moved ch y c m) (s ∙ at) ∙ sym (on-channel c m (transmit_step ch c m) there)
 

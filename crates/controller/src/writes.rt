@@ -1,4 +1,5 @@
-// What comes from outside: a frame, and a write that no guard has judged, by the rules 4 to 10 over the controller's own flags and registers.
+// What comes from outside: a frame, and a write that no guard has judged, by the rules 4 to 10 over the controller's own flags
+// and registers.
 
 ghost use Rattle.std.specs.Prelude.{◌≡◌, List, ℕ, ◌-◌};
 ghost use Rattle.layout.specs.Choice.{pick};

@@ -33,7 +33,9 @@ returns c =
     let still = sym c.is_quiet.ensures ∙ c.if-not-is_quiet.false in
     let n = c.stage.ensures in
     c.give-2.ensures m ∙ elim c.match-stage.branch [
-      | in-2 w ↦ ap (λ (d : Controller). answer 0 d m) (w.c-is ∙ w.tear_clear.ensures) ∙ sym (tear-2 a.q a.c m tearing still (sym n ∙ w.in-2.is))
+      | in-2 w ↦
+          ap (λ (d : Controller). answer 0 d m) (w.c-is ∙ w.tear_clear.ensures)
+          ∙ sym (tear-2 a.q a.c m tearing still (sym n ∙ w.in-2.is))
       | in_default w ↦
           ap (λ (d : Controller). answer 0 d m) (w.c-is ∙ w.tear_report.ensures)
           ∙ sym (tear-3 a.q a.c m tearing still (omega arith) (omega arith))

@@ -1,9 +1,6 @@
 -- `controller::steps::tear_step` meets its contract: the queue of that side and channel, if there is one. Assumes nothing.
-use Prim.Native.Nat.{ℕ}
-use mathlib.Core.Path.{◌∙◌, sym, ap}
-use Rattle.layout.specs.Layout.{queue_of}
-use Rattle.controller.specs.Controller.{tear_step}
-use Rattle.controller.proofs.StepLaws.{on-channel, off-channel}
+use mathlib.Core.Path.{◌∙◌, sym}
+use Rattle.controller.proofs.StepLaws.{off-channel}
 use Rattle.controller.proofs.steps.tear_step.Goals as goal
 
 pub returns-then-ch-ge-CHANNELS : goal.returns-then-ch-ge-CHANNELS

@@ -18,7 +18,8 @@ returns-in_default c =
     let x = c.step_transmit.new.m in
     c.give_undefined.ensures x
     ∙ ap (λ (y : List ℕ). undefine a.c y) (send-unfit _ a.m.now x _ _ _ (sym c.in_default.ensures))
-    ∙ sent a.ch a.c a.m.now x c.if-ch-ge-CHANNELS.false c.queue_of-q.ensures.0 c.is_held.ensures c.hdp.ensures c.cp.ensures c.in_default.ensures
+    ∙ sent a.ch a.c a.m.now x c.if-ch-ge-CHANNELS.false c.queue_of-q.ensures.0
+    c.is_held.ensures c.hdp.ensures c.cp.ensures c.in_default.ensures
 
 pub returns : goal.returns
 returns c =
@@ -26,4 +27,5 @@ returns c =
     let x = c.step_transmit.new.m in
     ap {B = StepDone} (λ (d : Controller). record { ctl = d; mem = x; burst = c.in-Some.s.burst; number = 0 })
     (simp (c.queue_of-q.ensures.0, c.saturating_add.ensures, c.from.ensures) at c.set_registers.ensures)
-    ∙ sent a.ch a.c a.m.now x c.if-ch-ge-CHANNELS.false c.queue_of-q.ensures.0 c.is_held.ensures c.hdp.ensures c.cp.ensures c.in-Some.ensures
+    ∙ sent a.ch a.c a.m.now x c.if-ch-ge-CHANNELS.false c.queue_of-q.ensures.0
+    c.is_held.ensures c.hdp.ensures c.cp.ensures c.in-Some.ensures
