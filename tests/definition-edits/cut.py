@@ -87,7 +87,8 @@ def below(all_crates, roots):
         name = todo.pop()
         if name not in out:
             out.add(name)
-            todo += all_crates[name]
+            # a crate of the kit has no line of its own
+            todo += all_crates.get(name, [])
     return [name for name in all_crates if name in out]
 
 

@@ -1,9 +1,8 @@
--- The digits of a number, one at a time, and how long a line can be. Assumes nothing.
---     decimal_digit, decimal-more      a number below 10 is one digit; any other is its tenth with its last digit behind
---     hex_for-more                      likewise in hex, where the number of digits is given
+-- The digits of a number, and how long a line can be. Assumes nothing.
+--     decimal-same                     the digits are those that std's `{}` writes
+--     hex-before                       in hex, the last digit stored, and the others in front of it
 --     length-hex_for, length-hex8       in hex the length is known
 --     length-decimal                   in decimal it is 1 to 20
---     length-decimal-more              one digit more than a tenth of it has
 --     length-line_of, length-sent_line, length-bad_line   a line has at most line_max bytes
 use Prim.Native.Nat.{ℕ, zero, suc, ◌+◌, ◌*◌, ◌-◌, ◌/◌, ◌%◌, ◌≤◌, ◌<◌, ◌^◌}
 use mathlib.Core.Path.{◌≡◌, refl, ap, ◌∙◌, sym}
@@ -11,9 +10,13 @@ use mathlib.Core.Bool.{Bool, true, false}
 use mathlib.Core.List.{List, [], ◌∷◌, ◌++◌}
 use native.Mathlib.Numerals.{add-one}
 use native.Mathlib.Omega.{arith}
-use lib.ListN.{length, length-append}
+use lib.ListN.{length, drop, set, length-append}
 use lib.Dec.{ltb}
 use borrow.Author.Tests.{lt-ltb, le-ltb}
+use Rattle.std.specs.Fmt.{decimal as std_decimal}
+use Rattle.std.proofs.Common.{append_assoc}
+use Rattle.std.proofs.lemmas.List.{drop-set}
+use Rattle.std.proofs.lemmas.Fmt.{AppendsLastDigit, decimal_from_appends, length-decimal-le}
 use Rattle.layout.specs.Choice.{pick}
 use Rattle.phases.specs.declared.Burst.TheVariants.{Quiet, Read, Store}
 use Rattle.records.specs.declared.Event.{Event}
@@ -21,22 +24,6 @@ use Rattle.records.specs.declared.Event.TheVariants.{Wrote, Changed, Framed, Mov
 use Rattle.records.specs.Lines.{digits_for, decimal, hex_digit, hex_for, hex8, line_with, line_of, sent_line, bad_line, line_max}
 
 -- ---- decimal
-
-digits-one : (k n : ℕ) → n < 10 → digits_for (suc k) n ≡ (48 + n) ∷ []
-digits-one k n h = rw (lt-ltb n 10 h)
-
-digits_more : (k n : ℕ) → 10 ≤ n → digits_for (suc k) n ≡ digits_for k (n / 10) ++ ((48 + n % 10) ∷ [])
-digits_more k n h = rw (le-ltb n 10 h)
-
-abbrev tens : ℕ → ℕ
-tens zero = 1
-tens (suc k) = 10 * tens k
-
--- digits that a number has not are not asked for
-digits_same : (k n : ℕ) → n < tens (suc k) → digits_for (suc (suc k)) n ≡ digits_for (suc k) n
-digits_same zero n h = let l : n < 10 = omega arith in digits-one 1 n l ∙ sym (digits-one 0 n l)
-digits_same (suc k) n h =
-    ap (λ (d : List ℕ). pick (ltb n 10) ((48 + n) ∷ []) (d ++ ((48 + n % 10) ∷ []))) (digits_same k (n / 10) (omega arith))
 
 pick-short : (t : Bool) (x d k : ℕ) (l : List ℕ) → length l ≤ k → length (pick t (x ∷ []) (l ++ (d ∷ []))) ≤ suc k
 pick-short true x d k l h = omega arith
@@ -50,22 +37,17 @@ digits-short : (k n : ℕ) → length (digits_for k n) ≤ k
 digits-short zero n = omega arith
 digits-short (suc k) n = pick-short (ltb n 10) (48 + n) (48 + n % 10) k (digits_for k (n / 10)) (digits-short k (n / 10))
 
-pub decimal_digit : (n : ℕ) → n < 10 → decimal n ≡ (48 + n) ∷ []
-unfolding decimal
-decimal_digit n h = digits-one 19 n h
-
-pub decimal-more : (n : ℕ) → 10 ≤ n → n < 2 ^ 64 → decimal n ≡ decimal (n / 10) ++ ((48 + n % 10) ∷ [])
-unfolding decimal
-decimal-more n h b =
-    digits_more 19 n h
-    ∙ ap (λ (d : List ℕ). d ++ ((48 + n % 10) ∷ [])) (sym (digits_same 18 (n / 10) (omega arith)))
+appends : AppendsLastDigit digits_for
+appends = record { one = λ k n h. rw (lt-ltb n 10 h); more = λ k n h. rw (le-ltb n 10 h) }
 
 pub length-decimal : (n : ℕ) → (1 ≤ length (decimal n)) × (length (decimal n) ≤ 20)
 unfolding decimal
 length-decimal n = (pick_some (ltb n 10) (48 + n) (48 + n % 10) (digits_for 19 (n / 10)), digits-short 20 n)
 
-pub length-decimal-more : (n : ℕ) → 10 ≤ n → n < 2 ^ 64 → length (decimal n) ≡ length (decimal (n / 10)) + 1
-length-decimal-more n h b = ap length (decimal-more n h b) ∙ length-append (decimal (n / 10)) ((48 + n % 10) ∷ [])
+-- what std says of a number's text
+pub decimal-same : (n : ℕ) → n < 2 ^ 64 → std_decimal n ≡ decimal n
+unfolding decimal
+decimal-same n h = sym (decimal_from_appends digits_for appends 20 n h (length-decimal-le 20 n (omega arith) (omega arith) h))
 
 -- ---- hex
 
@@ -80,10 +62,21 @@ pub length-hex8 : (a : ℕ) → length (hex8 a) ≡ 8
 unfolding hex8
 length-hex8 a = length-hex_for 8 a
 
-pub hex_for-more : (k a : ℕ) → 0 < k → hex_for k a ≡ hex_for (k - 1) (a / 16) ++ (hex_digit (a % 16) ∷ [])
+hex_for-more : (k a : ℕ) → 0 < k → hex_for k a ≡ hex_for (k - 1) (a / 16) ++ (hex_digit (a % 16) ∷ [])
 hex_for-more zero a h = absurd (omega arith)
 hex_for-more (suc k) a h =
     let e : suc k - 1 ≡ k = omega arith in ap (λ (j : ℕ). hex_for j (a / 16) ++ (hex_digit (a % 16) ∷ [])) (sym e)
+
+-- the last digit stored, and the others in front of it
+pub hex-before : (ds : List ℕ) (k m d : ℕ) → 0 < k → k ≤ length ds → d ≡ hex_digit (m % 16)
+    → hex_for (k - 1) (m / 16) ++ drop (k - 1) (set ds (k - 1) d) ≡ hex_for k m ++ drop k ds
+hex-before ds k m d h g e =
+    let front = hex_for (k - 1) (m / 16) in
+    let n : k - 1 + 1 ≡ k = omega arith in
+    ap (λ (t : List ℕ). front ++ t) (drop-set ds (k - 1) d (omega arith) ∙ ap (λ (j : ℕ). d ∷ drop j ds) n)
+    ∙ ap (λ (x : ℕ). front ++ (x ∷ drop k ds)) e
+    ∙ sym (append_assoc front (hex_digit (m % 16) ∷ []) (drop k ds))
+    ∙ ap (λ (w : List ℕ). w ++ drop k ds) (sym (hex_for-more k m h))
 
 -- ---- a line
 

@@ -3,18 +3,19 @@
 --     prints-unique            any two outcomes are one
 --     length-prints            the buffer keeps its length
 --     take-prints              what the buffer begins with, up to where the text ended
---     sets_more                one byte more behind the bytes stored
---     sets-hex, sets-decimal   the last digit stored first, and the others in front of it
+--     prints-part              a text copied over the part where it is to stand
 use Prim.Native.Nat.{ℕ, suc, ◌+◌, ◌-◌, ◌/◌, ◌%◌, ◌≤◌, ◌<◌, ◌^◌}
-use mathlib.Core.Path.{◌≡◌, ap, ◌∙◌, sym}
+use mathlib.Core.Path.{◌≡◌, refl, ap, ◌∙◌, sym}
 use mathlib.Core.List.{List, [], ◌∷◌, ◌++◌}
 use native.Mathlib.Nat.{add-zero, add-suc, suc-add, add_assoc}
 use native.Mathlib.Numerals.{add-one}
 use native.Mathlib.Omega.{arith}
 use lib.ListN.{length, get_or, set, take, drop, length-append}
 use lib.Seq.{sets, length-sets, sets-eq, set_comm, take-suc, take_at, length-take-le}
-use Rattle.records.specs.Lines.{Prints, decimal, hex_digit, hex_for}
-use Rattle.records.proofs.LineLaws.{decimal-more, length-decimal-more, length-hex_for, hex_for-more}
+use borrow.Rule.Slice.PartMut.{put_mid}
+use Rattle.std.proofs.Common.{append_assoc}
+use Rattle.std.proofs.lemmas.List.{drop-drop}
+use Rattle.records.specs.Lines.{Prints}
 
 -- one place further on, either way
 further : (i n : ℕ) → i + suc n ≡ suc i + n
@@ -25,41 +26,19 @@ sets-append l i [] ws = ap (λ (k : ℕ). sets l k ws) (add-zero i)
 sets-append l i (v ∷ vs) ws =
     ap (λ (k : ℕ). sets (sets (set l i v) (suc i) vs) k ws) (further i (length vs)) ∙ sets-append (set l i v) (suc i) vs ws
 
--- a byte stored first, and the others in front of it
-sets-before : (l : List ℕ) (i d : ℕ) (vs : List ℕ) → sets (set l (i + length vs) d) i vs ≡ sets l i (vs ++ (d ∷ []))
-sets-before l i d [] = ap (λ (k : ℕ). set l k d) (add-zero i)
-sets-before l i d (v ∷ vs) =
-    ap (λ (m : List ℕ). sets m (suc i) vs) (set_comm l (i + suc (length vs)) i d v (omega arith))
-    ∙ ap (λ (k : ℕ). sets (set (set l i v) k d) (suc i) vs) (further i (length vs))
-    ∙ sets-before (set l i v) (suc i) d vs
-
-pub sets_more : (l : List ℕ) (i k : ℕ) (s : List ℕ) → k < length s → set (sets l i (take k s)) (i + k) (get_or s k 0) ≡ sets l i (take
-    (k + 1) s)
-sets_more l i k s h =
-    let t = take k s in
-    let n : length t ≡ k = length-take-le k s (omega arith) in
-    ap (λ (j : ℕ). set (sets l i t) (i + j) (get_or s k 0)) (sym n)
-    ∙ sets-append l i t (get_or s k 0 ∷ [])
-    ∙ ap (λ (m : List ℕ). sets l i m) (sym (take-suc s k 0 h))
-    ∙ ap (λ (j : ℕ). sets l i (take j s)) (sym (add-one k))
-
-pub sets-hex : (l : List ℕ) (i k m d : ℕ) → 0 < k → d ≡ hex_digit (m % 16)
-    → sets (set l (i + (k - 1)) d) i (hex_for (k - 1) (m / 16)) ≡ sets l i (hex_for k m)
-sets-hex l i k m d h e =
-    let vs = hex_for (k - 1) (m / 16) in
-    let x = hex_digit (m % 16) in
-    ap (λ (y : ℕ). sets (set l (i + (k - 1)) y) i vs) e
-    ∙ ap (λ (j : ℕ). sets (set l (i + j) x) i vs) (sym (length-hex_for (k - 1) (m / 16)))
-    ∙ sets-before l i x vs
-    ∙ ap (λ (w : List ℕ). sets l i w) (sym (hex_for-more k m h))
-
-pub sets-decimal : (l : List ℕ) (i j m : ℕ) → 10 ≤ m → m < 2 ^ 64 → j + 1 ≡ i + length (decimal m)
-    → sets (set l j (48 + m % 10)) i (decimal (m / 10)) ≡ sets l i (decimal m)
-sets-decimal l i j m h b e =
-    let vs = decimal (m / 10) in
-    let x = 48 + m % 10 in
-    let n : j ≡ i + length vs = omega (arith, length-decimal-more m h b) in
-    ap (λ (k : ℕ). sets (set l k x) i vs) n ∙ sets-before l i x vs ∙ ap (λ (w : List ℕ). sets l i w) (sym (decimal-more m h b))
+-- a text copied over the part where it is to stand
+pub prints-part : {x y t : List ℕ} {i : ℕ} → y ≡ t → i + length t ≤ length x → Prints x i t (put_mid i (i + length t - i) x y) (i + length t)
+prints-part {x} {y} {t} {i} e h =
+    let n : i + length t - i ≡ length t = omega arith in
+    record {
+      ends = refl;
+      bytes =
+          ap (λ (s : List ℕ). put_mid i (i + length t - i) x s) e
+          ∙ ap (λ (k : ℕ). take i x ++ (t ++ drop k (drop i x))) n
+          ∙ ap (λ (s : List ℕ). take i x ++ (t ++ s)) (drop-drop (length t) i x)
+          ∙ sym (append_assoc (take i x) t (drop (i + length t) x))
+          ∙ sym (sets-eq t x i h);
+    }
 
 pub prints-then : {x y z : List ℕ} {i j k : ℕ} {l m : List ℕ} → Prints x i l y j → Prints y j m z k → Prints x i (l ++ m) z k
 prints-then {x} {y} {z} {i} {j} {k} {l} {m} p q = record {

@@ -18,7 +18,6 @@ use Rattle.layout.proofs.ChoiceLaws.{both_right}
 use Rattle.blocks.specs.Kinds.{all_kinds}
 use Rattle.records.specs.declared.Record.{Record}
 use Rattle.records.specs.declared.Record.TheVariants.{Ram}
-
 use Rattle.records.specs.Records.{Decoded, bad, u16_at, has_mark, needs, ram_max, record_max, engine_max, decode_ram, decode_later, decode}
 
 -- ---- size

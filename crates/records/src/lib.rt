@@ -7,12 +7,12 @@
 #![tactic(auto)]
 
 ghost use Rattle.std.specs.Prelude.{◌≡◌, true, ◌∷◌, [], ◌+◌, ◌≤◌, ◌<◌, length};
-ghost use Rattle.records.specs.declared.Event.TheVariants.{Moved};
 ghost use Rattle.records.specs.Records.{found, engine_of, decode_ram, decode_write, decode_kind, decode_frame, decode_steps, decode_later, decode};
 ghost use Rattle.records.specs.Lines.{blank, digits_max, decimal, hex_digit, hex_digits, hex8, tail_with};
 ghost use Rattle.records.specs.Lines.{line_with, line_of, sent_line, bad_line, line_max, Prints};
 
 use blocks::kinds_fit;
+use itoa::Buffer;
 use layout::{BLOCKS_MAX, CHANNELS};
 use phases::{Burst, Engine, engine_at};
 
@@ -180,49 +180,16 @@ fn put_text(out: &mut [u8], at: usize, text: &[u8]) -> usize
     requires { at + length text.now ≤ length out.old }
     ensures { Prints out.old at text.now out.new result }
 {
-    let mut i = 0;
-    while i < text.len() {
-        out[at + i] = text[i];
-        i += 1;
-    }
-    at + i
+    let end = at + text.len();
+    out[at..end].copy_from_slice(text);
+    end
 }
 
-fn put_byte(out: &mut [u8], at: usize, b: u8) -> usize
-    requires { at < length out.old }
-    ensures { Prints out.old at (b ∷ []) out.new result }
-{
-    out[at] = b;
-    at + 1
-}
-
-fn count_digits(n: u64) -> usize
-    ensures { result ≡ length (decimal n) }
-{
-    let mut k: usize = 1;
-    let mut m = n;
-    while 10 <= m {
-        m = m / 10;
-        k += 1;
-    }
-    k
-}
-
-// The digits come from the last to the first, so they are counted before.
 fn put_decimal(out: &mut [u8], at: usize, n: u64) -> usize
     requires { at + digits_max ≤ length out.old }
     ensures { Prints out.old at (decimal n) out.new result }
 {
-    let end = at + count_digits(n);
-    let mut i = end - 1;
-    let mut m = n;
-    while 10 <= m {
-        out[i] = b'0' + (m % 10) as u8;
-        m = m / 10;
-        i -= 1;
-    }
-    out[i] = b'0' + m as u8;
-    end
+    put_text(out, at, Buffer::new().format(n).as_bytes())
 }
 
 fn hex_digit(d: u32) -> u8
@@ -235,79 +202,57 @@ fn hex_digit(d: u32) -> u8
     b'A' - 10 + d as u8
 }
 
-fn put_hex8(out: &mut [u8], at: usize, a: u32) -> usize
-    requires { at + hex_digits ≤ length out.old }
-    ensures { Prints out.old at (hex8 a) out.new result }
+// The digits come from the last to the first.
+fn hex8(a: u32) -> [u8; HEX_DIGITS]
+    ensures { result ≡ hex8 a }
 {
-    let mut k = HEX_DIGITS;
+    let mut digits = [0; HEX_DIGITS];
     let mut m = a;
-    while 0 < k {
-        k -= 1;
-        out[at + k] = hex_digit(m % 16);
-        m = m / 16;
+    for k in (0..HEX_DIGITS).rev() {
+        digits[k] = hex_digit(m % 16);
+        m /= 16;
     }
-    at + HEX_DIGITS
+    digits
 }
 
-fn put_head(out: &mut [u8], at: usize, letter: u8) -> usize
-    requires { at + 2 ≤ length out.old }
-    ensures { Prints out.old at (letter ∷ blank ∷ []) out.new result }
+// A line: a letter, a first part and a number.
+fn put_line(out: &mut [u8], at: usize, letter: u8, part: &[u8], n: u64) -> usize
+    requires { (at + line_max ≤ length out.old) × (length part.now ≤ digits_max) }
+    ensures { Prints out.old at (line_with letter part.now n) out.new result }
 {
-    let blank = put_byte(out, at, letter);
-    put_byte(out, blank, BLANK)
-}
-
-fn put_tail(out: &mut [u8], at: usize, n: u64) -> usize
-    requires { at + (digits_max + 2) ≤ length out.old }
-    ensures { Prints out.old at (tail_with n) out.new result }
-{
-    let number = put_byte(out, at, BLANK);
+    let first = put_text(out, at, &[letter, BLANK]);
+    let second = put_text(out, first, part);
+    let number = put_text(out, second, &[BLANK]);
     let newline = put_decimal(out, number, n);
-    put_byte(out, newline, NEWLINE)
+    put_text(out, newline, &[NEWLINE])
 }
 
-// A line whose first part is an address.
-fn put_address_line(out: &mut [u8], at: usize, letter: u8, a: u32, n: u64) -> usize
-    requires { at + line_max ≤ length out.old }
-    ensures { Prints out.old at (line_with letter (hex8 a) n) out.new result }
-{
-    let part = put_head(out, at, letter);
-    let tail = put_hex8(out, part, a);
-    put_tail(out, tail, n)
-}
-
-// A line whose first part is another number.
-fn put_number_line(out: &mut [u8], at: usize, letter: u8, b: u64, n: u64) -> usize
-    requires { at + line_max ≤ length out.old }
-    ensures { Prints out.old at (line_with letter (decimal b) n) out.new result }
-{
-    let part = put_head(out, at, letter);
-    let tail = put_decimal(out, part, b);
-    put_tail(out, tail, n)
-}
-
-// The line of a burst: its address and how many bytes it moves. A step without a burst has none.
-fn put_burst(out: &mut [u8], at: usize, b: Burst) -> usize
-    requires { at + line_max ≤ length out.old }
-    ensures { Prints out.old at (line_of (Moved b)) out.new result }
-{
-    match b {
-        Burst::Quiet => at,
-        Burst::Read(a, n) => put_address_line(out, at, b'R', a, n as u64),
-        Burst::Store(a, n) => put_address_line(out, at, b'S', a, n as u64),
-    }
-}
-
-// The line of what happened.
+// The line of what happened. A step without a burst has none.
 pub fn put_event(out: &mut [u8], at: usize, e: Event) -> usize
     requires { at + line_max ≤ length out.old }
     ensures { Prints out.old at (line_of e) out.new result }
 {
     match e {
-        Event::Wrote(a, n) => put_address_line(out, at, b'W', a, n as u64),
-        Event::Changed(b, n) => put_number_line(out, at, b'K', b as u64, n as u64),
-        Event::Framed(l, n) => put_number_line(out, at, b'F', l as u64, n as u64),
-        Event::Moved(b) => put_burst(out, at, b),
+        Event::Wrote(a, n) => put_line(out, at, b'W', &hex8(a), u64::from(n)),
+        Event::Changed(b, n) => put_line(
+            out,
+            at,
+            b'K',
+            Buffer::new().format(u64::from(b)).as_bytes(),
+            u64::from(n),
+        ),
+        Event::Framed(l, n) => put_line(
+            out,
+            at,
+            b'F',
+            Buffer::new().format(u64::from(l)).as_bytes(),
+            u64::from(n),
+        ),
+        Event::Moved(b) => match b {
+            Burst::Quiet => at,
+            Burst::Read(a, n) => put_line(out, at, b'R', &hex8(a), u64::from(n)),
+            Burst::Store(a, n) => put_line(out, at, b'S', &hex8(a), u64::from(n)),
+        },
     }
 }
 
@@ -320,7 +265,7 @@ pub fn put_sent(out: &mut [u8], at: usize, a: u64, b: u64) -> usize
     let word = put_decimal(out, first, a);
     let second = put_text(out, word, b" received ");
     let newline = put_decimal(out, second, b);
-    put_byte(out, newline, NEWLINE)
+    put_text(out, newline, &[NEWLINE])
 }
 
 // The last line of a run that met a bad record at that offset.
@@ -330,5 +275,5 @@ pub fn put_bad(out: &mut [u8], at: usize, offset: u64) -> usize
 {
     let number = put_text(out, at, b"bad record ");
     let newline = put_decimal(out, number, offset);
-    put_byte(out, newline, NEWLINE)
+    put_text(out, newline, &[NEWLINE])
 }

@@ -33,4 +33,3 @@ returns-in_default-5 c = later-bad _ (λ e f. omega arith) (λ e f. omega arith)
 
 pub returns-in_default-6 : goal.returns-in_default-6
 returns-in_default-6 c = later-bad _ (λ e f. omega arith) (λ e f. omega arith) (λ e f. omega arith) (λ e f. omega arith)
-

@@ -5,10 +5,10 @@ use Rattle.records.proofs.LineLaws.{length-decimal}
 use Rattle.records.specs.Lines.{bad_line}
 use Rattle.records.proofs.put_bad.Goals as goal
 
-pub put_byte-requires : goal.put_byte-requires
-put_byte-requires c = omega (arith, length-decimal c.args.offset)
+pub put_text-requires : goal.put_text-requires
+put_text-requires c = omega (arith, length-decimal c.args.offset)
 
 pub returns : goal.returns
 unfolding bad_line
 returns c = prints-then c.put_text-number.ensures
-    (prints-then c.put_decimal-newline.ensures c.put_byte.ensures)
+    (prints-then c.put_decimal-newline.ensures c.put_text.ensures)

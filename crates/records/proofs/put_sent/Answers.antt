@@ -6,21 +6,13 @@ use Rattle.records.specs.Lines.{sent_line}
 use Rattle.records.proofs.put_sent.Goals as goal
 
 pub put_text-second-requires : goal.put_text-second-requires
-put_text-second-requires c = omega (
-  arith,
-  length-decimal
-      c.args.a,
-)
+put_text-second-requires c = omega (arith, length-decimal c.args.a)
 
 pub put_decimal-newline-requires : goal.put_decimal-newline-requires
-put_decimal-newline-requires c = omega (
-  arith,
-  length-decimal
-      c.args.a,
-)
+put_decimal-newline-requires c = omega (arith, length-decimal c.args.a)
 
-pub put_byte-requires : goal.put_byte-requires
-put_byte-requires c = let a = c.args in
+pub put_text-requires : goal.put_text-requires
+put_text-requires c = let a = c.args in
     omega (arith, length-decimal a.a, length-decimal a.b)
 
 pub returns : goal.returns
@@ -28,4 +20,4 @@ unfolding sent_line
 returns c = prints-then c.put_text-first.ensures
     (prints-then c.put_decimal-word.ensures
     (prints-then c.put_text-second.ensures
-    (prints-then c.put_decimal-newline.ensures c.put_byte.ensures)))
+    (prints-then c.put_decimal-newline.ensures c.put_text.ensures)))
