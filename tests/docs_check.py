@@ -161,7 +161,10 @@ def exported(wrong):
 
 
 # Begun and used by no crate yet (docs/PORT.md): each is proved, has its row, and must find its use or go.
-BEGUN = ("phases::engine_at", "soundness::is_sound")
+BEGUN = ("soundness::is_sound",)
+
+# Called by no other crate since the design pass (docs/DESIGN-PASS.md), which takes no public promise away.
+KEPT = ("guard::answer_to", "layout::descriptor_word", "layout::is_good", "layout::word_number")
 
 # what a source uses of a crate, by name
 USES = re.compile(r"^(?:pub )?use ((?:\w+::)+)(\{[^}]*\}|\w+);", re.M)
@@ -177,7 +180,7 @@ def used(wrong):
         names |= set(re.findall(r"\b(\w+)::(?:\w+::)*(\w+)\(", code))
         calls.setdefault(path.parts[-3], []).append((names, code))
     for f in functions():
-        if f.exported or f.full in BEGUN:
+        if f.exported or f.full in BEGUN + KEPT:
             continue
         call = re.compile((r"\." if f.method else r"\b") + f.name + r"\(")
 
