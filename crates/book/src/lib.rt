@@ -24,7 +24,8 @@ ghost use Rattle.book.specs.Hops.{turned, taken, walked, noted};
 
 use descriptor::{Flag, has_flag};
 use layout::{
-    CHANNELS, LENGTH_MAX, Lengths, Memory, QUEUES, Side, Slot, TEARDOWN_DONE, Words, clear_bit, slot_at,
+    CHANNELS, LENGTH_MAX, Lengths, Memory, QUEUES, Side, Slot, TEARDOWN_DONE, Words, clear_bit,
+    slot_at,
 };
 use registers::{
     CP_AT, MARKS_AT, RESET_AT, State, TEARING_AT, are_flags, has_reset_bit, is_any_tearing,
