@@ -1,7 +1,5 @@
 -- `player::first_kinds`: the kinds lie behind mark and N, and the bytes have them all. Assumes nothing.
-use Rattle.std.proofs.Common.{◌≡◌, ◌+◌, ◌-◌, length, Some, refl, sym, ◌∙◌, ap, arith}
-use lib.ListN.{length-drop}
-use lib.Seq.{length-take-le}
+use Rattle.std.proofs.Common.{arith}
 use Rattle.player.proofs.FirstLaws.{ram-is, first-count}
 use Rattle.player.proofs.StandLaws.{decoded-is}
 use Rattle.player.proofs.first_kinds.Goals as goal
