@@ -15,7 +15,7 @@ use lib.Dec.{leb}
 use borrow.Author.Tests.{leb-true}
 use Rattle.std.proofs.Common.{Ok, Err, None, Some}
 use Rattle.layout.specs.Choice.{pick, both}
-use Rattle.layout.proofs.ChoiceLaws.{both_right}
+use Rattle.layout.proofs.ChoiceLaws.{both_left, both_right}
 use Rattle.blocks.specs.Kinds.{all_kinds}
 use Rattle.controller.specs.declared.Controller.{Controller}
 use Rattle.controller.specs.Controller.{fresh_controller}
@@ -80,7 +80,8 @@ pub first-count : (bs : List ℕ) {d : Decoded} {r : Record} {n s : ℕ} → d �
     → kinds_in (decode true bs) ≡ Some (length (take (s - 4) (drop 4 bs)))
 first-count bs {d} {r} {n} {s} a b e =
     let z = ram-is bs a b e in
-    let k : length (take (s - 4) (drop 4 bs)) ≡ s - 4 = length-take-le (s - 4) (drop 4 bs) (simp length-drop (omega (arith, z.1.1))) in
+    let k : length (take (s - 4) (drop 4 bs)) ≡ s - 4 =
+    length-take-le (s - 4) (drop 4 bs) (simp length-drop (omega (arith, z.1.1))) in
     let m : n ≡ length (take (s - 4) (drop 4 bs)) = omega (arith, k, z.1.0) in
     ap (λ (x : Decoded). kinds_in x) (sym a ∙ b) ∙ ap (λ (x : Record). kinds_of x) e ∙ ap (λ (x : ℕ). Some x) m
 

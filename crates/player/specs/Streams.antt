@@ -1,7 +1,7 @@
 -- What a run takes of its reader and gives to its writer, where these say which bytes they have left and hold.
 --     shown r y            what is written at the end of a run: the lines that are gathered and the last one; nothing, where it goes on
---     TurnedOn, ReachedOn, EndedOn, PrintedOn   what was read is what the reader lost, what was handed to the write is what the writer got, and the
---                          input has ended only where the reader has no byte left
+--     TurnedOn, ReachedOn, EndedOn, PrintedOn   what was read is what the reader lost, what was handed to the write is what the writer
+--                          got, and the input has ended only where the reader has no byte left
 -- `left`, `left'` are the bytes that the reader has left, before and after; `held`, `held'` those that the writer holds.
 -- Laws: proofs/StreamLaws.antt. Assumes nothing: these are definitions.
 use Rattle.std.specs.Prelude.{ℕ, ◌<◌, List, [], ◌++◌, length, take, Bool, Option}
@@ -32,7 +32,8 @@ pub record ReachedOn (left left' held held' : Option (List ℕ)) (turns : ℕ) (
   pub right : EndsRight s.window.ended left → EndsRight r.window.ended left'
   pub wrote : Appends held held' reached.put
 
-pub record EndedOn (left left' held held' : Option (List ℕ)) (s : Run) (m k t u l x y : List ℕ) (e : Last) (y' : List ℕ) : Type 0 where
+pub record EndedOn (left left' held held' : Option (List ℕ)) (s : Run) (m k t u l x y : List ℕ) (e : Last)
+    (y' : List ℕ) : Type 0 where
   pub ended : Ended s m k t u l x y e y'
   pub read : Consumes left left' ended.got
   pub right : EndsRight s.window.ended left → EndsRight e.ended left'

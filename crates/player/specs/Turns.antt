@@ -70,7 +70,8 @@ pub record Acted (d : Decoded) (w : Window) (c : Controller) (at o : ℕ) (m k t
   pub ended : ended_on r ≡ w.ended
   pub stands : (read wrote x : List ℕ) → length read < offset_end → Inside w x → d ≡ decode false (window_of w x)
       → Enough (window_of w x) w.ended
-      → Stands read wrote (run_at c at w o) m k t u l x y → StandsOn read wrote r m' k' t' u' l' x y' × ForContinue r (λ q. o < q.offset)
+      → Stands read wrote (run_at c at w o) m k t u l x y
+      → StandsOn read wrote r m' k' t' u' l' x y' × ForContinue r (λ q. o < q.offset)
 
 -- what was read is what the window was filled with; what was handed to the write is what was gathered, where it was much
 pub record Turned (s : Run) (m k t u l x y : List ℕ) (r : ControlFlow Last Run) (m' k' t' u' l' x' y' : List ℕ) : Type 0 where

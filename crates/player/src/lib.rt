@@ -35,7 +35,8 @@ const GATHERED: usize = 4096;
 // Where the kinds of a first record stand: behind its mark and N.
 const KINDS_AT: usize = 4;
 
-// The tables of a machine but its kinds: descriptor memory, the guard's small state, words in use and lengths.
+// The tables of a machine: descriptor memory, the guard's small state, words in use and lengths. Its kinds are so many as the first record
+// has, a part of an array, and are lent beside them.
 #[derive(Drop)]
 struct Tables {
     mem: Memory,
@@ -165,7 +166,8 @@ fn take_turn<R: Read, W: Write>(
     act(to, d, Run { at, window, ..s }, tables, kinds, out)
 }
 
-// Turns until the run is over: each takes a byte at least, so there are offsets for all of them. Where the read or a write of one fails, the machine stands as the turns before it left it.
+// Turns until the run is over. Each takes a byte at least, so the last of them goes on only where 2^64 bytes were read. Where the read or
+// a write of one fails, the machine stands as the turns before it left it.
 fn replay_rest<R: Read, W: Write>(
     source: &mut R,
     to: &mut W,
@@ -197,7 +199,8 @@ fn replay_rest<R: Read, W: Write>(
 
 // The kinds of the first record, where the input begins with one.
 fn first_kinds(bs: &[u8]) -> Option<&[u8]>
-    ensures count { MatchOption result (kinds_in (decode true bs.now) ≡ None) (λ ks. kinds_in (decode true bs.now) ≡ Some (length ks.now)) }
+    ensures count { MatchOption result (kinds_in (decode true bs.now) ≡ None)
+        (λ ks. kinds_in (decode true bs.now) ≡ Some (length ks.now)) }
     ensures kinds { IfSome result (λ ks. ks.now ≡ take (length ks.now) (drop 4 bs.now)) }
 {
     match decode_record(bs, true) {
