@@ -28,13 +28,14 @@ use Rattle.records.specs.Lines.{bad_line}
 use Rattle.records.proofs.SizeLaws.{same_found}
 use Rattle.replay.specs.Replay.{replay_for, replay_first, replay}
 use Rattle.window.specs.declared.Window.{Window}
-use Rattle.window.specs.Window.{window_of, Inside}
+use Rattle.window.specs.Window.{window_of, Inside, Passed}
 use Rattle.window.proofs.WindowLaws.{length-window, window-pass}
 use Rattle.player.specs.declared.Run.{Run}
+use Rattle.player.specs.declared.Last.{Last}
 use Rattle.player.specs.Stands.{replay_from, MayCome, Enough, Lines, Stands, Holds}
-use Rattle.player.specs.Turns.{kinds_of, kinds_in, Ends, Begun, Fresh, Reached, Printed}
+use Rattle.player.specs.Turns.{kinds_of, kinds_in, Fresh, Ended, Printed}
+use Rattle.player.proofs.StandLaws.{Ends}
 use Rattle.player.proofs.ReplayLaws.{fuel, decode-more}
-use Rattle.player.proofs.StandLaws.{reached-over}
 
 -- ---- what is decoded
 
@@ -79,7 +80,8 @@ pub first-count : (bs : List ℕ) {d : Decoded} {r : Record} {n s : ℕ} → d �
     → kinds_in (decode true bs) ≡ Some (length (take (s - 4) (drop 4 bs)))
 first-count bs {d} {r} {n} {s} a b e =
     let z = ram-is bs a b e in
-    let k : length (take (s - 4) (drop 4 bs)) ≡ s - 4 = length-take-le (s - 4) (drop 4 bs) (simp length-drop (omega (arith, z.1.1))) in
+    let k : length (take (s - 4) (drop 4 bs)) ≡ s - 4 =
+    length-take-le (s - 4) (drop 4 bs) (simp length-drop (omega (arith, z.1.1))) in
     let m : n ≡ length (take (s - 4) (drop 4 bs)) = omega (arith, k, z.1.0) in
     ap (λ (x : Decoded). kinds_in x) (sym a ∙ b) ∙ ap (λ (x : Record). kinds_of x) e ∙ ap (λ (x : ℕ). Some x) m
 
@@ -164,6 +166,13 @@ printed-bad w x y y' end h e z =
 
 -- ---- a fresh machine with the first record's kinds
 
+-- the run behind the first record
+pub record Begun (w : Window) (n : ℕ) (r : Run) : Type 0 where
+  pub ctl : r.ctl ≡ fresh_controller
+  pub at : r.at ≡ 0
+  pub window : Passed w (4 + n) r.window
+  pub offset : r.offset ≡ 4 + n
+
 pub begun-holds : (w : Window) (n : ℕ) (s : Run) (x y : List ℕ) → Inside w x → w.from + (4 + n) ≤ w.len → Begun w n s → Holds s x y
 begun-holds w n s x y h g b = record {
   inside = record { order = omega (arith, b.window.from, b.window.len, g); within = omega (arith, b.window.len, h.within) };
@@ -186,27 +195,22 @@ module _ (w : Window) (x : List ℕ) (h : Enough (window_of w x) w.ended) (n : �
       let j : window_of s.window x ≡ rest = window-pass w s.window (4 + n) x b.window in
       let is = fresh-is s.ctl m k t u l ks b.ctl kinds fresh in
       let long : s.offset + (length bs - (4 + n)) ≡ length bs = omega (arith, b.offset, g) in
-      let k1 : Lines bs [] [] true (4 + n) (fresh_machine ks) rest w.ended = λ more may. first-lines bs w.ended h more may n d g in
-      let k2 = subst (λ (z : Machine). Lines bs [] [] true (4 + n) z rest w.ended) (sym is) k1 in
-      let k3 = subst (λ (z : ℕ). Lines bs [] [] true z (machine_at s.ctl m k t u l) rest w.ended) (sym b.offset) k2 in
-      let k4 = subst (λ (z : List ℕ). Lines bs [] [] true s.offset (machine_at s.ctl m k t u l) z w.ended) (sym j) k3 in
-      let k5 = subst (λ (z : Bool). Lines bs [] [] true s.offset (machine_at s.ctl m k t u l) (window_of s.window x) z) (sym
-      b.window.ended) k4 in
-      let k6 = subst (λ (z : Bool). Lines bs [] [] z s.offset (machine_at s.ctl m k t u l) (window_of s.window x)
-      s.window.ended) (sym b.going) k5 in
+      let k1 : Lines bs [] [] (4 + n) (fresh_machine ks) rest w.ended = λ more may. first-lines bs w.ended h more may n d g in
+      let k2 = subst (λ (z : Machine). Lines bs [] [] (4 + n) z rest w.ended) (sym is) k1 in
+      let k3 = subst (λ (z : ℕ). Lines bs [] [] z (machine_at s.ctl m k t u l) rest w.ended) (sym b.offset) k2 in
+      let k4 = subst (λ (z : List ℕ). Lines bs [] [] s.offset (machine_at s.ctl m k t u l) z w.ended) (sym j) k3 in
+      let k5 = subst (λ (z : Bool). Lines bs [] [] s.offset (machine_at s.ctl m k t u l) (window_of s.window x) z)
+      (sym b.window.ended) k4 in
       record {
         place = ap (λ (z : List ℕ). s.offset + length z) j ∙ ap (λ (z : ℕ). s.offset + z) (length-drop (4 + n) bs) ∙ long;
-        lines = subst (λ (z : ℕ). Lines bs [] (take z y) s.going s.offset (machine_at s.ctl m k t u l) (window_of s.window x)
-            s.window.ended) (sym b.at) k6;
+        lines = subst (λ (z : ℕ). Lines bs [] (take z y) s.offset (machine_at s.ctl m k t u l) (window_of s.window x)
+            s.window.ended) (sym b.at) k5;
       }
 
-  abbrev pub printed-all : (r : Run) (m1 k1 t1 u1 l1 x1 y1 : List ℕ) → Holds r x1 y1 → Reached 0 s m k t u l x y r m1 k1 t1 u1 l1 x1 y1
-      → Printed (window_of w x) (record { end = r.at; ended = r.window.ended }) y1
-  printed-all r m1 k1 t1 u1 l1 x1 y1 hold a = record {
+  abbrev pub printed-all : (e : Last) (y1 : List ℕ) → Ended s m k t u l x y e y1 → Printed (window_of w x) e y1
+  printed-all e y1 a = record {
     got = a.got;
     put = a.put;
-    room = hold.room;
-    whole = λ few more may.
-        reached-over s m k t u l x y r m1 k1 t1 u1 l1 x1 y1 a (window_of w x) [] few begun-stands more may
-        ∙ ap (λ (z : List ℕ). a.put ++ z) (append-nil (take r.at y1));
+    room = a.room;
+    whole = λ few. a.over (window_of w x) [] few begun-stands;
   }

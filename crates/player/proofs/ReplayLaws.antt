@@ -73,28 +73,25 @@ decode-more first w ended more (inr e) m = ap (λ (l : List ℕ). decode first (
 -- ---- the parts of a turn
 
 module _ (read wrote g : List ℕ) (o : ℕ) (s : Machine) (w : List ℕ) where
-  pub lines-refill : (e0 e1 : Bool) (got : List ℕ) → (e0 ≡ true → (got ≡ []) × (e1 ≡ true)) → Lines read wrote g true o s w e0
-      → Lines (read ++ got) wrote g true o s (w ++ got) e1
+  pub lines-refill : (e0 e1 : Bool) (got : List ℕ) → (e0 ≡ true → (got ≡ []) × (e1 ≡ true)) → Lines read wrote g o s w e0
+      → Lines (read ++ got) wrote g o s (w ++ got) e1
   lines-refill e0 e1 got st f more m =
       ap replay (append_assoc read got more)
       ∙ f (got ++ more) (λ t. ap (λ (l : List ℕ). l ++ more) (st t).0 ∙ m (st t).1)
       ∙ ap (λ (l : List ℕ). wrote ++ (g ++ replay_from o s l)) (sym (append_assoc w got more))
 
-  module _ (ended : Bool) (h : Enough w ended) (f : Lines read wrote g true o s w ended) where
-    pub lines_end : decode false w ≡ Ok None → Lines read wrote (g ++ sent_line s.ctl.sent s.ctl.received) false o s w ended
+  module _ (ended : Bool) (h : Enough w ended) (f : Lines read wrote g o s w ended) where
+    pub lines_end : decode false w ≡ Ok None → (more : List ℕ) → MayCome ended more
+        → replay (read ++ more) ≡ wrote ++ (g ++ sent_line s.ctl.sent s.ctl.received)
     lines_end e more m =
-        f more m
-        ∙ ap (λ (l : List ℕ). wrote ++ (g ++ l)) (from_end o s (w ++ more) (decode-more false w ended more h m ∙ e))
-        ∙ ap (λ (l : List ℕ). wrote ++ l) (sym (append-nil (g ++ sent_line s.ctl.sent s.ctl.received)))
+        f more m ∙ ap (λ (l : List ℕ). wrote ++ (g ++ l)) (from_end o s (w ++ more) (decode-more false w ended more h m ∙ e))
 
-    pub lines-bad : decode false w ≡ bad → Lines read wrote (g ++ bad_line o) false o s w ended
+    pub lines-bad : decode false w ≡ bad → (more : List ℕ) → MayCome ended more → replay (read ++ more) ≡ wrote ++ (g ++ bad_line o)
     lines-bad e more m =
-        f more m
-        ∙ ap (λ (l : List ℕ). wrote ++ (g ++ l)) (from-bad o s (w ++ more) (decode-more false w ended more h m ∙ e))
-        ∙ ap (λ (l : List ℕ). wrote ++ l) (sym (append-nil (g ++ bad_line o)))
+        f more m ∙ ap (λ (l : List ℕ). wrote ++ (g ++ l)) (from-bad o s (w ++ more) (decode-more false w ended more h m ∙ e))
 
     pub lines-good : (r : Record) (n : ℕ) → decode false w ≡ Ok (Some (r, n))
-        → Lines read wrote (g ++ lines_of (record_of r s).0) true (o + n) (record_of r s).1 (drop n w) ended
+        → Lines read wrote (g ++ lines_of (record_of r s).0) (o + n) (record_of r s).1 (drop n w) ended
     lines-good r n e more m =
         let z = decode-sized w false r n e in
         let p = record_of r s in
@@ -108,7 +105,6 @@ flush-at : (t : Bool) (wrote rest y : List ℕ) (at : ℕ)
 flush-at true wrote rest y at = ap (λ (l : List ℕ). l ++ (take at y ++ rest)) (sym (append-nil wrote))
 flush-at false wrote rest y at = sym (append_assoc wrote (take at y) rest)
 
-pub lines-flush : (read wrote y : List ℕ) (at o : ℕ) (s : Machine) (w : List ℕ) (ended : Bool) → Lines read wrote
-    (take at y) true o s w ended
-    → Lines read (wrote ++ flushed at y) (take (kept_at at) y) true o s w ended
+pub lines-flush : (read wrote y : List ℕ) (at o : ℕ) (s : Machine) (w : List ℕ) (ended : Bool) → Lines read wrote (take at y) o s w ended
+    → Lines read (wrote ++ flushed at y) (take (kept_at at) y) o s w ended
 lines-flush read wrote y at o s w ended f more m = f more m ∙ flush-at (leb at gathered_max) wrote (replay_from o s (w ++ more)) y at

@@ -1,19 +1,18 @@
 -- What the reader lost and what the writer got, through the parts of a run. Assumes nothing.
 --     both_ok                  two promises of one answer
---     turns-on-none, turns-on-more, turns-on-all   turns one after another
+--     turns-on-none, turns-on-more, turns-on-last, turns-on-all   turns one after another
 --     printed-on-all           the whole input, behind its first record
 --     written                  what the writer got in all is `replay` of what the reader had
-use Prim.Native.Nat.{ℕ, ◌+◌, ◌-◌, ◌≤◌, ◌<◌}
+use Prim.Native.Nat.{ℕ, ◌+◌, ◌≤◌, ◌<◌}
 use mathlib.Core.Path.{◌≡◌, ap, ◌∙◌, sym, subst}
 use mathlib.Core.Bool.{Bool, true}
 use mathlib.Core.List.{List, [], ◌++◌, append_assoc, append-nil}
 use native.Mathlib.Omega.{arith}
 use lib.ListN.{length, take, drop, length-append}
 use Rattle.std.specs.Prelude.{Option, Some, None, IfSome, IfOk}
-use Rattle.std.proofs.Common.{Result, Ok, Err}
+use Rattle.std.proofs.Common.{Result, Ok, Err, Continue, Break}
 use Rattle.std.specs.Io.KnownBytes.{Consumes, Appends}
 use Rattle.std.proofs.KnownBytes.{Consumes-nil, Consumes-trans, Appends-nil, Appends-trans}
-use Rattle.layout.specs.Choice.{pick}
 use Rattle.records.specs.declared.Record.TheVariants.{Ram}
 use Rattle.records.specs.Records.{decode}
 use Rattle.replay.specs.Replay.{replay}
@@ -22,10 +21,10 @@ use Rattle.window.specs.Window.{window_of, EndsRight}
 use Rattle.player.specs.declared.Run.{Run}
 use Rattle.player.specs.declared.Last.{Last}
 use Rattle.player.specs.Stands.{Enough, Holds, offset_end}
-use Rattle.player.specs.Turns.{Begun, Fresh, flushed}
-use Rattle.player.specs.Streams.{shown, TurnedOn, ReachedOn, PrintedOn}
-use Rattle.player.proofs.StandLaws.{reached-none, reached-more, reached-going}
-use Rattle.player.proofs.FirstLaws.{begun-stands, printed-all}
+use Rattle.player.specs.Turns.{Fresh, flushed}
+use Rattle.player.specs.Streams.{TurnedOn, ReachedOn, EndedOn, PrintedOn}
+use Rattle.player.proofs.StandLaws.{reached-none, reached-more, ended-more, no-end, ended-none}
+use Rattle.player.proofs.FirstLaws.{Begun, begun-stands, printed-all}
 
 pub both_ok : {T E : Type 0} (r : Result T E) (P Q R : T → Type 0) → ((x : T) → P x → Q x → R x) → IfOk r P → IfOk r Q → IfOk r R
 both_ok (Ok x) P Q R f p q = f x p q
@@ -34,57 +33,63 @@ both_ok (Err e) P Q R f p q = tt
 -- ---- turns one after another
 
 module _ (left held : Option (List ℕ)) (s : Run) (m k t u l x y : List ℕ) where
-  pub turns-on-none : (turns : ℕ) → s.going ≡ true → offset_end ≤ turns + s.offset
+  pub turns-on-none : (turns : ℕ) → offset_end ≤ turns + s.offset
       → ReachedOn left left held held turns s m k t u l x y s m k t u l x y
-  turns-on-none turns going h = record {
+  turns-on-none turns h = record {
     reached = reached-none s m k t u l x y turns h;
     read = Consumes-nil left;
     right = λ e. e;
-    wrote = subst (λ (z : Bool). Appends held held (pick z [] (take s.at y))) (sym going) (Appends-nil held);
+    wrote = Appends-nil held;
   }
 
   module _ (left1 held1 : Option (List ℕ)) (turns : ℕ) (r : Run) (m1 k1 t1 u1 l1 x1 y1 : List ℕ)
-      (a : ReachedOn left left1 held held1 turns s m k t u l x y r m1 k1 t1 u1 l1 x1 y1) where
-    wrote-on : r.going ≡ true → Appends held held1 a.reached.put
-    wrote-on going =
-        subst (λ (z : List ℕ). Appends held held1 z) (append-nil a.reached.put)
-        (subst (λ (z : Bool). Appends held held1 (a.reached.put ++ pick z [] (take r.at y1))) going a.wrote)
-
-    pub turns-on-more : (left2 held2 : Option (List ℕ)) (some : ℕ) (q : Run) (m2 k2 t2 u2 l2 x2 y2 : List ℕ) → r.going ≡ true
-        → 0 < turns → some ≡ pick q.going (turns - 1) 0
-        → TurnedOn left1 left2 held1 held2 r m1 k1 t1 u1 l1 x1 y1 q m2 k2 t2 u2 l2 x2 y2
+      (a : ReachedOn left left1 held held1 turns s m k t u l x y r m1 k1 t1 u1 l1 x1 y1) (left2 held2 : Option (List ℕ)) where
+    pub turns-on-more : (some : ℕ) (q : Run) (m2 k2 t2 u2 l2 x2 y2 : List ℕ) → some + 1 ≡ turns
+        → TurnedOn left1 left2 held1 held2 r m1 k1 t1 u1 l1 x1 y1 (Continue q) m2 k2 t2 u2 l2 x2 y2
         → ReachedOn left left2 held held2 some s m k t u l x y q m2 k2 t2 u2 l2 x2 y2
-    turns-on-more left2 held2 some q m2 k2 t2 u2 l2 x2 y2 going h is b = record {
-      reached = reached-more s m k t u l x y turns r m1 k1 t1 u1 l1 x1 y1 a.reached some q m2 k2 t2 u2 l2 x2 y2 going h is b.turned;
+    turns-on-more some q m2 k2 t2 u2 l2 x2 y2 is b = record {
+      reached = reached-more s m k t u l x y turns r m1 k1 t1 u1 l1 x1 y1 a.reached some q m2 k2 t2 u2 l2 x2 y2 is b.turned;
       read = Consumes-trans left left1 left2 a.reached.got b.turned.filled.got a.read b.read;
       right = λ e. b.right (a.right e);
-      wrote = subst (λ (z : List ℕ). Appends held held2 z) (sym (append_assoc a.reached.put (flushed r.at y1) (shown q y2)))
-          (Appends-trans held held1 held2 a.reached.put (flushed r.at y1 ++ shown q y2) (wrote-on going) b.wrote);
+      wrote = Appends-trans held held1 held2 a.reached.put (flushed r.at y1) a.wrote
+          (subst (λ (z : List ℕ). Appends held1 held2 z) (append-nil (flushed r.at y1)) b.wrote);
     }
 
-    -- no turn is left
-    pub turns-on-all : turns ≤ 0 → ReachedOn left left1 held held1 0 s m k t u l x y r m1 k1 t1 u1 l1 x1 y1
-    turns-on-all h =
-        let e : turns ≡ 0 = omega (arith, h) in
-        subst (λ (z : ℕ). ReachedOn left left1 held held1 z s m k t u l x y r m1 k1 t1 u1 l1 x1 y1) e a
+    pub turns-on-last : (e : Last) (m2 k2 t2 u2 l2 x2 y2 : List ℕ)
+        → TurnedOn left1 left2 held1 held2 r m1 k1 t1 u1 l1 x1 y1 (Break e) m2 k2 t2 u2 l2 x2 y2
+        → EndedOn left left2 held held2 s m k t u l x y e y2
+    turns-on-last e m2 k2 t2 u2 l2 x2 y2 b = record {
+      ended = ended-more s m k t u l x y turns r m1 k1 t1 u1 l1 x1 y1 a.reached e m2 k2 t2 u2 l2 x2 y2 b.turned;
+      read = Consumes-trans left left1 left2 a.reached.got b.turned.filled.got a.read b.read;
+      right = λ e. b.right (a.right e);
+      wrote = λ read wrote n f.
+          subst (λ (z : List ℕ). Appends held held2 z) (sym (append_assoc a.reached.put (flushed r.at y1) (take e.end y2)))
+          (Appends-trans held held1 held2 a.reached.put (flushed r.at y1 ++ take e.end y2) a.wrote b.wrote);
+    }
+
+  -- no turn is left
+  pub turns-on-all : (left1 held1 : Option (List ℕ)) (turns : ℕ) (r : Run) (m1 k1 t1 u1 l1 x1 y1 : List ℕ)
+      → ReachedOn left left1 held held1 turns s m k t u l x y r m1 k1 t1 u1 l1 x1 y1 → turns ≤ 0 → Holds r x1 y1
+      → EndedOn left left1 held held1 s m k t u l x y (record { end = r.at; ended = r.window.ended }) y1
+  turns-on-all left1 held1 turns r m1 k1 t1 u1 l1 x1 y1 a h hold = record {
+    ended = ended-none s m k t u l x y r m1 k1 t1 u1 l1 x1 y1 turns a.reached h hold;
+    read = a.read;
+    right = a.right;
+    wrote = λ read wrote n f. absurd (omega (arith, no-end s m k t u l x y r m1 k1 t1 u1 l1 x1 y1 turns a.reached h read wrote n f));
+  }
 
 -- ---- the whole input
 
 module _ (w : Window) (x : List ℕ) (h : Enough (window_of w x) w.ended) (n : ℕ)
     (d : decode true (window_of w x) ≡ Ok (Some (Ram n, 4 + n))) (g : 4 + n ≤ length (window_of w x)) (s : Run) (b : Begun w n s)
     (m k t u l y : List ℕ) (fresh : Fresh m t u l) (kinds : k ≡ take n (drop 4 (window_of w x))) where
-  pub printed-on-all : (left left1 held held1 : Option (List ℕ)) (r : Run) (m1 k1 t1 u1 l1 x1 y1 : List ℕ) → Holds r x1 y1
-      → ReachedOn left left1 held held1 0 s m k t u l x y r m1 k1 t1 u1 l1 x1 y1
-      → PrintedOn left left1 held held1 w.ended (window_of w x) (record { end = r.at; ended = r.window.ended }) y1
-  printed-on-all left left1 held held1 r m1 k1 t1 u1 l1 x1 y1 hold a = record {
-    printed = printed-all w x h n d g s b m k t u l y fresh kinds r m1 k1 t1 u1 l1 x1 y1 hold a.reached;
+  pub printed-on-all : (left left1 held held1 : Option (List ℕ)) (e : Last) (y1 : List ℕ)
+      → EndedOn left left1 held held1 s m k t u l x y e y1 → PrintedOn left left1 held held1 w.ended (window_of w x) e y1
+  printed-on-all left left1 held held1 e y1 a = record {
+    printed = printed-all w x h n d g s b m k t u l y fresh kinds e y1 a.ended;
     read = a.read;
     right = λ z. a.right (λ e. z (sym b.window.ended ∙ e));
-    wrote = λ few.
-        let over =
-        reached-going s m k t u l x y r m1 k1 t1 u1 l1 x1 y1 a.reached (window_of w x) [] few
-        (begun-stands w x h n d g s b m k t u l y fresh kinds) in
-        subst (λ (z : Bool). Appends held held1 (a.reached.put ++ pick z [] (take r.at y1))) over a.wrote;
+    wrote = λ few. a.wrote (window_of w x) [] few (begun-stands w x h n d g s b m k t u l y fresh kinds);
   }
 
 -- the reader had bs, and has `rest` left: `first` was read, and then what is printed behind it

@@ -3,30 +3,28 @@
 --     kept_at at, flushed at y  how many bytes of lines are kept, and those that are handed to the write first
 --     size_of d                 how many bytes were decoded
 --     kinds_of r, kinds_in d     N of a first record, where there is one
---     Ends y at l y' e         the line l stands behind those gathered
---     Went, Begun              the run behind a record, and behind the first one
 --     Fresh m t u l            the tables of a fresh machine
 --     Acted, Turned            what was decoded is played, and one turn whole: where the run stood before, it stands after
---     Reached, Printed, unread, Replayed   so it is after any number of turns, and for the whole input
+--     Reached, Ended, Printed, unread, Replayed   so it is after any number of turns, at the end, and for the whole input
 --     Untouched, Broken        the machine as it stood, and as some turns left it: where a read or a write fails
 -- Laws: proofs/StandLaws.antt. Assumes nothing: these are definitions.
-use Rattle.std.specs.Prelude.{ℕ, ◌+◌, ◌-◌, ◌*◌, ◌≤◌, ◌<◌, min, ◌≡◌, true, false, List, [], ◌++◌, length, take, replicate, leb, Ok, Err, Option, None, Some}
+use Rattle.std.specs.Prelude.{ℕ, ◌+◌, ◌*◌, ◌≤◌, ◌<◌, ◌≡◌, false, List, [], ◌++◌, length, take, replicate, leb, Ok, Err, Option, None, Some}
+use Rattle.std.specs.declared.ops.ControlFlow.{ControlFlow}
+use Rattle.std.specs.ControlFlow.{ForContinue}
 use Rattle.layout.specs.Choice.{pick}
 use Rattle.layout.specs.Layout.{desc_bytes}
 use Rattle.book.specs.World.{fresh_state, fresh_used, fresh_lens}
 use Rattle.controller.specs.declared.Controller.{Controller}
-use Rattle.controller.specs.Controller.{fresh_controller}
 use Rattle.records.specs.declared.Record.{Record}
 use Rattle.records.specs.declared.Record.TheVariants.{Ram, Write, Kind, Frame, Steps}
 use Rattle.records.specs.Records.{Decoded, record_max, decode}
 use Rattle.records.specs.Lines.{line_max}
-use Rattle.replay.specs.declared.Played.{Played}
 use Rattle.replay.specs.Replay.{replay}
 use Rattle.window.specs.declared.Window.{Window}
-use Rattle.window.specs.Window.{window_of, Inside, Refilled, Passed}
+use Rattle.window.specs.Window.{window_of, Inside, Refilled}
 use Rattle.player.specs.declared.Run.{Run}
 use Rattle.player.specs.declared.Last.{Last}
-use Rattle.player.specs.Stands.{MayCome, Enough, Stands, Holds, offset_end, run_at}
+use Rattle.player.specs.Stands.{MayCome, Enough, Over, Stands, StandsOn, HoldsOn, ended_on, offset_end, run_at}
 
 abbrev pub gathered_max : ℕ
 gathered_max = 4096
@@ -58,24 +56,6 @@ kinds_in (Ok None) = None
 kinds_in (Ok (Some (r, size))) = kinds_of r
 kinds_in (Err e) = None
 
-pub record Ends (y : List ℕ) (at : ℕ) (line y' : List ℕ) (end : ℕ) : Type 0 where
-  pub room : end ≤ length y'
-  pub bytes : take end y' ≡ take at y ++ line
-
-pub record Went (p : Played) (w : Window) (n o : ℕ) (r : Run) : Type 0 where
-  pub ctl : r.ctl ≡ p.ctl
-  pub at : r.at ≡ p.end
-  pub window : Passed w n r.window
-  pub offset : r.offset ≡ min (o + n) (offset_end - 1)
-  pub going : r.going ≡ true
-
-pub record Begun (w : Window) (n : ℕ) (r : Run) : Type 0 where
-  pub ctl : r.ctl ≡ fresh_controller
-  pub at : r.at ≡ 0
-  pub window : Passed w (4 + n) r.window
-  pub offset : r.offset ≡ 4 + n
-  pub going : r.going ≡ true
-
 -- "A fresh machine has zero descriptor memory and registers, empty queues"
 pub record Fresh (m t u l : List ℕ) : Type 0 where
   pub mem : m ≡ replicate desc_bytes 0
@@ -84,30 +64,38 @@ pub record Fresh (m t u l : List ℕ) : Type 0 where
   pub lens : l ≡ fresh_lens
 
 -- d was decoded from the window w of any buffer that decides it; no byte is read, and none is handed to the write before the run is over
-pub record Acted (d : Decoded) (w : Window) (c : Controller) (at o : ℕ) (m k t u l y : List ℕ) (r : Run)
+pub record Acted (d : Decoded) (w : Window) (c : Controller) (at o : ℕ) (m k t u l y : List ℕ) (r : ControlFlow Last Run)
     (m' k' t' u' l' y' : List ℕ) : Type 0 where
-  pub inside : (x : List ℕ) → Inside w x → Inside r.window x
-  pub ended : r.window.ended ≡ w.ended
-  pub room : r.at ≤ length y'
+  pub holds : (x : List ℕ) → Inside w x → HoldsOn r x y'
+  pub ended : ended_on r ≡ w.ended
   pub stands : (read wrote x : List ℕ) → length read < offset_end → Inside w x → d ≡ decode false (window_of w x)
       → Enough (window_of w x) w.ended
-      → Stands read wrote (run_at c at w o true) m k t u l x y → Stands read wrote r m' k' t' u' l' x y' × (r.going ≡ true → o < r.offset)
+      → Stands read wrote (run_at c at w o) m k t u l x y
+      → StandsOn read wrote r m' k' t' u' l' x y' × ForContinue r (λ q. o < q.offset)
 
 -- what was read is what the window was filled with; what was handed to the write is what was gathered, where it was much
-pub record Turned (s : Run) (m k t u l x y : List ℕ) (r : Run) (m' k' t' u' l' x' y' : List ℕ) : Type 0 where
+pub record Turned (s : Run) (m k t u l x y : List ℕ) (r : ControlFlow Last Run) (m' k' t' u' l' x' y' : List ℕ) : Type 0 where
   pub window : Window
   pub filled : Refilled record_max s.window x window x'
-  pub ended : r.window.ended ≡ window.ended
-  pub holds : Holds r x' y'
+  pub ended : ended_on r ≡ window.ended
+  pub holds : HoldsOn r x' y'
   pub stands : (read wrote : List ℕ) → length (read ++ filled.got) < offset_end → Stands read wrote s m k t u l x y
-      → Stands (read ++ filled.got) (wrote ++ flushed s.at y) r m' k' t' u' l' x' y' × (r.going ≡ true → s.offset < r.offset)
+      → StandsOn (read ++ filled.got) (wrote ++ flushed s.at y) r m' k' t' u' l' x' y' × ForContinue r (λ q. s.offset < q.offset)
 
 -- after some turns that read `got` and handed `put` to the write, with so many turns left
 pub record Reached (turns : ℕ) (s : Run) (m k t u l x y : List ℕ) (r : Run) (m' k' t' u' l' x' y' : List ℕ) : Type 0 where
   pub got : List ℕ
   pub put : List ℕ
   pub stands : (read wrote : List ℕ) → length (read ++ got) < offset_end → Stands read wrote s m k t u l x y
-      → Stands (read ++ got) (wrote ++ put) r m' k' t' u' l' x' y' × (r.going ≡ true → offset_end ≤ turns + r.offset)
+      → Stands (read ++ got) (wrote ++ put) r m' k' t' u' l' x' y' × (offset_end ≤ turns + r.offset)
+
+-- after the last turn
+pub record Ended (s : Run) (m k t u l x y : List ℕ) (e : Last) (y' : List ℕ) : Type 0 where
+  pub got : List ℕ
+  pub put : List ℕ
+  pub room : e.end ≤ length y'
+  pub over : (read wrote : List ℕ) → length (read ++ got) < offset_end → Stands read wrote s m k t u l x y
+      → Over (read ++ got) (wrote ++ put) e y'
 
 -- the bytes `first` were read, then `got`; `put` was handed to the write, and last what y begins with: together all that `replay` prints
 pub record Printed (first : List ℕ) (r : Last) (y : List ℕ) : Type 0 where

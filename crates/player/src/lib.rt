@@ -16,8 +16,8 @@ ghost use Rattle.replay.specs.Replay.{replay};
 ghost use Rattle.window.specs.Window.{window_of, Inside};
 ghost use Rattle.player.specs.Stands.{Enough, Holds, offset_end};
 ghost use Rattle.player.specs.Turns.{gathered_max, room_min, kept_at, flushed, size_of, kinds_in, Fresh};
-ghost use Rattle.player.specs.Turns.{Acted, Turned, Reached, Printed, Replayed, Untouched, Broken};
-ghost use Rattle.player.specs.Streams.{shown, TurnedOn, ReachedOn, PrintedOn};
+ghost use Rattle.player.specs.Turns.{Acted, Turned, Printed, Replayed, Untouched, Broken};
+ghost use Rattle.player.specs.Streams.{shown, TurnedOn, EndedOn, PrintedOn};
 
 use controller::Controller;
 use layout::{DESC_BYTES, DESC_WORDS, Lengths, Memory, Words};
@@ -26,6 +26,7 @@ use registers::{STATE, State};
 use replay::{play, put_totals};
 use std::io;
 use std::io::{Read, Write};
+use std::ops::ControlFlow;
 use window::Window;
 
 // Lines are written out where more than this many bytes of them are gathered.
@@ -34,7 +35,8 @@ const GATHERED: usize = 4096;
 // Where the kinds of a first record stand: behind its mark and N.
 const KINDS_AT: usize = 4;
 
-// The tables of a machine but its kinds: descriptor memory, the guard's small state, words in use and lengths.
+// The tables of a machine: descriptor memory, the guard's small state, words in use and lengths. Its kinds are so many as the first record
+// has, a part of an array, and are lent beside them.
 #[derive(Drop)]
 struct Tables {
     mem: Memory,
@@ -43,14 +45,13 @@ struct Tables {
     lens: Lengths,
 }
 
-// The run between two records: the controller, where the next line goes, the window, the next record's offset, and whether it goes on.
+// The run between two records: the controller, where the next line goes, the window, and the next record's offset.
 #[derive(Drop)]
 struct Run {
     ctl: Controller,
     at: usize,
     window: Window,
     offset: u64,
-    going: bool,
 }
 
 // The end of a run: how many bytes were handed to the write last, and whether the input had been read to its end.
@@ -97,7 +98,7 @@ fn act<W: Write>(
     tables: &mut Tables,
     kinds: &mut [u8],
     out: &mut [u8],
-) -> io::Result<Run>
+) -> io::Result<ControlFlow<Last, Run>>
     requires { (s.window.from + size_of d ≤ s.window.len) × (s.at ≤ gathered_max) × (room_min ≤ length out.old) }
     ensures acted { IfOk result (λ r. Acted d s.window s.ctl s.at s.offset
         tables.old.mem kinds.old tables.old.state tables.old.used tables.old.lens out.old r
@@ -120,23 +121,21 @@ fn act<W: Write>(
                 out,
                 s.at,
             );
-            return Ok(Run {
+            return Ok(ControlFlow::Continue(Run {
                 ctl: played.ctl,
                 at: played.end,
                 window: s.window.pass(n),
                 offset: s.offset.saturating_add(n as u64),
-                going: true,
-            });
+            }));
         }
         Ok(None) => put_totals(s.ctl, out, s.at),
         Err(BadRecord) => put_bad(out, s.at, s.offset),
     };
     to.write_all(&out[..end])?;
-    Ok(Run {
-        at: end,
-        going: false,
-        ..s
-    })
+    Ok(ControlFlow::Break(Last {
+        end,
+        ended: s.window.ended,
+    }))
 }
 
 // One turn: the window filled, the lines written where they are many, one record played. Where the read or a write fails, the machine
@@ -149,8 +148,8 @@ fn take_turn<R: Read, W: Write>(
     tables: &mut Tables,
     kinds: &mut [u8],
     out: &mut [u8],
-) -> io::Result<Run>
-    requires { (record_max ≤ length input.old) × (room_min ≤ length out.old) × Holds s input.old out.old × (s.going ≡ true) }
+) -> io::Result<ControlFlow<Last, Run>>
+    requires { (record_max ≤ length input.old) × (room_min ≤ length out.old) × Holds s input.old out.old }
     ensures turned { IfOk result (λ r. Turned s
         tables.old.mem kinds.old tables.old.state tables.old.used tables.old.lens input.old out.old r
         tables.new.mem kinds.new tables.new.state tables.new.used tables.new.lens input.new out.new) }
@@ -167,7 +166,8 @@ fn take_turn<R: Read, W: Write>(
     act(to, d, Run { at, window, ..s }, tables, kinds, out)
 }
 
-// Turns until the run is over. Where the read or a write of one fails, the machine stands as the turns before it left it.
+// Turns until the run is over. Each takes a byte at least, so the last of them goes on only where 2^64 bytes were read. Where the read or
+// a write of one fails, the machine stands as the turns before it left it.
 fn replay_rest<R: Read, W: Write>(
     source: &mut R,
     to: &mut W,
@@ -176,34 +176,31 @@ fn replay_rest<R: Read, W: Write>(
     tables: &mut Tables,
     kinds: &mut [u8],
     out: &mut [u8],
-) -> io::Result<Run>
-    requires { (record_max ≤ length input.old) × (room_min ≤ length out.old) × Holds first input.old out.old
-        × (first.going ≡ true) × (0 < first.offset) }
-    ensures holds { IfOk result (λ r. Holds r input.new out.new) }
-    ensures reached { IfOk result (λ r. Reached 0 first
-        tables.old.mem kinds.old tables.old.state tables.old.used tables.old.lens input.old out.old r
-        tables.new.mem kinds.new tables.new.state tables.new.used tables.new.lens input.new out.new) }
-    ensures on { IfOk result (λ r. ReachedOn (R.remaining source.old) (R.remaining source.new) (W.contents to.old) (W.contents to.new)
-        0 first
-        tables.old.mem kinds.old tables.old.state tables.old.used tables.old.lens input.old out.old r
-        tables.new.mem kinds.new tables.new.state tables.new.used tables.new.lens input.new out.new) }
+) -> io::Result<Last>
+    requires { (record_max ≤ length input.old) × (room_min ≤ length out.old) × Holds first input.old out.old × (0 < first.offset) }
+    ensures on { IfOk result (λ e. EndedOn (R.remaining source.old) (R.remaining source.new) (W.contents to.old) (W.contents to.new) first
+        tables.old.mem kinds.old tables.old.state tables.old.used tables.old.lens input.old out.old e out.new) }
     ensures failed { OnErr result (Broken first
         tables.old.mem kinds.old tables.old.state tables.old.used tables.old.lens input.old out.old
         tables.new.mem kinds.new tables.new.state tables.new.used tables.new.lens) }
 {
     let mut s = first;
     for _ in 0..u64::MAX {
-        s = take_turn(source, to, input, s, tables, kinds, out)?;
-        if !s.going {
-            break;
-        }
+        s = match take_turn(source, to, input, s, tables, kinds, out)? {
+            ControlFlow::Continue(next) => next,
+            ControlFlow::Break(last) => return Ok(last),
+        };
     }
-    Ok(s)
+    Ok(Last {
+        end: s.at,
+        ended: s.window.ended,
+    })
 }
 
 // The kinds of the first record, where the input begins with one.
 fn first_kinds(bs: &[u8]) -> Option<&[u8]>
-    ensures count { MatchOption result (kinds_in (decode true bs.now) ≡ None) (λ ks. kinds_in (decode true bs.now) ≡ Some (length ks.now)) }
+    ensures count { MatchOption result (kinds_in (decode true bs.now) ≡ None)
+        (λ ks. kinds_in (decode true bs.now) ≡ Some (length ks.now)) }
     ensures kinds { IfSome result (λ ks. ks.now ≡ take (length ks.now) (drop 4 bs.now)) }
 {
     match decode_record(bs, true) {
@@ -247,13 +244,8 @@ fn play_input<R: Read, W: Write>(
         at: 0,
         window: w.pass(size),
         offset: size as u64,
-        going: true,
     };
-    let run = replay_rest(source, to, input, first, tables, kinds, out)?;
-    Ok(Last {
-        end: run.at,
-        ended: run.window.ended,
-    })
+    replay_rest(source, to, input, first, tables, kinds, out)
 }
 
 // All that is read from `source` is replayed, and its lines are written to `to`. The two buffers are lent: the input has room for any

@@ -14,8 +14,8 @@ ghost use Rattle.window.specs.Window.{window_of, Inside, Refilled, Kept, EndsRig
 use std::io;
 use std::io::Read;
 
-// The part of a buffer that is still to be taken, and whether the input has been read to its end. The buffer is lent to each call:
-// a window that held it would need a clause on the loan in each of them, and its bytes could not be lent on while they are played.
+// The part of a buffer that is still to be taken, and whether the input has been read to its end. The buffer itself is lent to each call:
+// a window that held the loan would need a clause on its ghost name in each function that takes it.
 #[derive(Clone, Copy)]
 pub struct Window {
     pub from: usize,

@@ -1,6 +1,7 @@
 -- `player::play_input` meets its contract: the first record's kinds and a fresh machine, then the rest of the input. Assumes nothing.
 use Rattle.std.proofs.Common.{ℕ, List, length, take, drop, ◌∙◌, sym, refl, ap, arith}
 use Rattle.std.proofs.KnownBytes.{Consumes-nil}
+use Rattle.std.proofs.lemmas.Result.{IfOk-weaker}
 use lib.Seq.{length-take-le}
 use Rattle.records.proofs.LineLaws.{length-bad_line}
 use Rattle.player.proofs.FirstLaws.{first-of, none-of, first-room, begun-holds, printed-bad}
@@ -45,21 +46,23 @@ pass-requires g c =
     first-room c.args.w c.args.input.now _ c.requires.3 (first-of c.bytes.ensures c.in-Some.ensures.count).room
 
 pub replay_rest-requires : goal.replay_rest-requires
-replay_rest-requires g c =
-    let p = c.requires in
-    let f = first-of c.bytes.ensures c.in-Some.ensures.count in
-    (p.0, p.1, begun-holds c.args.w _ _ _ _ p.3 (first-room c.args.w _ _ p.3 f.room)
-    (record { ctl = c.fresh.ensures; at = refl; window = c.pass.ensures; offset = refl; going = refl }), refl, omega arith)
+replay_rest-requires g c = (
+  c.requires.0,
+  c.requires.1,
+  begun-holds c.args.w _ _ _ _ c.requires.3 (first-room c.args.w _ _ c.requires.3 (first-of c.bytes.ensures c.in-Some.ensures.count).room)
+      (record { ctl = c.fresh.ensures; at = refl; window = c.pass.ensures; offset = refl }),
+  omega arith,
+)
 
 pub returns-clause-on : goal.returns-clause-on
 returns-clause-on g c =
-    let p = c.requires in
     let n = length c.in-Some.listed.now in
     let f = first-of c.bytes.ensures c.in-Some.ensures.count in
     let k = c.copy_from_slice.ensures.after ∙ c.in-Some.ensures.kinds ∙ ap (λ (l : List ℕ). take n (drop 4 l)) c.bytes.ensures in
-    printed-on-all c.args.w c.args.input.now p.4 n f.is f.room _
-    (record { ctl = c.fresh.ensures; at = refl; window = c.pass.ensures; offset = refl; going = refl }) _ _ _ _ _ _
-    p.5 k _ _ _ _ _ _ _ _ _ _ _ _ c.in_ok-run.ensures.holds c.in_ok-run.ensures.on
+    IfOk-weaker c.replay_rest.result _ _
+    (λ e a. printed-on-all c.args.w c.args.input.now c.requires.4 n f.is f.room _
+    (record { ctl = c.fresh.ensures; at = refl; window = c.pass.ensures; offset = refl }) _ _ _ _ _ _
+    c.requires.5 k _ _ _ _ e _ a) c.replay_rest.ensures.on
 
 pub returns-clause-printed : goal.returns-clause-printed
-returns-clause-printed g c = (returns-clause-on g c).printed
+returns-clause-printed g c = IfOk-weaker c.replay_rest.result _ _ (λ e a. a.printed) (returns-clause-on g c)

@@ -20,7 +20,7 @@ act-requires g c = (
 pub returns-clause-turned : goal.returns-clause-turned
 returns-clause-turned g c =
     IfOk-weaker c.act.result _ _
-    (λ r a. turned c.args.s _ _ _ _ _ _ _ _ _ c.in_ok-window.ensures.filled c.requires.3 _ _ r _ _ _ _ _ _ c.in_ok-at.ensures.kept
+    (λ r a. turned c.args.s _ _ _ _ _ _ _ _ _ c.in_ok-window.ensures.filled _ _ r _ _ _ _ _ _ c.in_ok-at.ensures.kept
     (c.decode_record-d.ensures ∙ ap (decode _) c.bytes.ensures) a)
     c.act.ensures.acted
 
@@ -29,7 +29,7 @@ returns-clause-on g c =
     let f = c.in_ok-window.ensures.filled in
     both_ok c.act.result _ _ _
     (λ r a b. record {
-      turned = turned c.args.s _ _ _ _ _ _ _ _ _ f c.requires.3 _ _ r _ _ _ _ _ _ c.in_ok-at.ensures.kept
+      turned = turned c.args.s _ _ _ _ _ _ _ _ _ f _ _ r _ _ _ _ _ _ c.in_ok-at.ensures.kept
           (c.decode_record-d.ensures ∙ ap (decode _) c.bytes.ensures) a;
       read = subst (Consumes _ _) (got-is f c.requires.2.inside) c.in_ok-window.ensures.read;
       right = λ h e. c.in_ok-window.ensures.right h (sym a.ended ∙ e);
