@@ -1,5 +1,7 @@
 -- What the rules and their leaf hand on, as steps of the judge. Assumes nothing.
 --     fault_of_at                    a descriptor's fault, by its four words
+--     unpacked-packed               a number and its place that were put into one number come out again
+--     step-refused                  a number and a place that refuse end the judge's walk
 --     judged_refused, judged_met     what the leaf hands on
 --     hand_refused, hand_end, hand_start, hand_middle, hand_buffer   what a rule answers is what follows the hand that it was given
 --     hand_less                     and that is over fewer words
@@ -9,7 +11,7 @@
 --     measured_words, buffer_room_words, said_barred   the descriptor there, by its four words, and the answer
 --     verdict_told                  the answer from the rules' number
 --     single_16, verdict_single     the answer from the one descriptor of a chain
-use Prim.Native.Nat.{ℕ, ◌/◌, ◌%◌, ◌<◌, ◌^◌}
+use Prim.Native.Nat.{ℕ, ◌+◌, ◌*◌, ◌/◌, ◌%◌, ◌<◌, ◌^◌}
 use mathlib.Core.Path.{◌≡◌, refl, ap, ◌∙◌, sym}
 use mathlib.Core.Bool.{Bool, true, false}
 use mathlib.Core.Logic.{◌≢◌}
@@ -49,6 +51,20 @@ pub fault_of_at : (kinds : List ℕ) (w : ℕ → ℕ) (pl : Place) (k : ℕ) (d
     → fault_of kinds pl d ≡ desc_fault kinds w pl k
 unfolding fault_of desc_fault desc_at
 fault_of_at kinds w pl k d e = rw e refl
+
+-- ---- a number and its place in one number
+
+pub unpacked-packed : (n p : ℕ) (met : List ℕ) → n < 256 → unpacked (n + 256 * p) met ≡ (n, p, met)
+unpacked-packed n p met h =
+    let a : (n + 256 * p) % 256 ≡ n = omega arith in
+    let b : (n + 256 * p) / 256 ≡ p = omega arith in
+    rw (a, b) refl
+
+pub step-refused : (kinds : List ℕ) (w : ℕ → ℕ) (pl : Place) (met : List ℕ) (p n : ℕ) → n ≡ fault_at kinds w pl met p → (v : ℕ) → n ≢ 0
+    → n < 256 → v ≡ n + 256 * p
+    → stop (unpacked v met) ≡ judge_step kinds w (pl, met, p)
+step-refused kinds w pl met p n is v z h e =
+    rw (e, unpacked-packed n p met h) (sym (fault_at-step kinds w pl met p ∙ rw (← is, ne_eqb n 0 z) refl))
 
 -- ---- what the leaf hands on
 
