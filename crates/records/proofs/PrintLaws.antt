@@ -4,14 +4,13 @@
 --     length-prints            the buffer keeps its length
 --     take-prints              what the buffer begins with, up to where the text ended
 --     prints-part              a text copied over the part where it is to stand
-use Prim.Native.Nat.{ℕ, suc, ◌+◌, ◌-◌, ◌/◌, ◌%◌, ◌≤◌, ◌<◌, ◌^◌}
+use Prim.Native.Nat.{ℕ, suc, ◌+◌, ◌-◌, ◌≤◌}
 use mathlib.Core.Path.{◌≡◌, refl, ap, ◌∙◌, sym}
 use mathlib.Core.List.{List, [], ◌∷◌, ◌++◌}
 use native.Mathlib.Nat.{add-zero, add-suc, suc-add, add_assoc}
-use native.Mathlib.Numerals.{add-one}
 use native.Mathlib.Omega.{arith}
-use lib.ListN.{length, get_or, set, take, drop, length-append}
-use lib.Seq.{sets, length-sets, sets-eq, set_comm, take-suc, take_at, length-take-le}
+use lib.ListN.{length, set, take, drop, length-append}
+use lib.Seq.{sets, length-sets, sets-eq, take_at, length-take-le}
 use borrow.Rule.Slice.PartMut.{put_mid}
 use Rattle.std.proofs.Common.{append_assoc}
 use Rattle.std.proofs.lemmas.List.{drop-drop}
@@ -27,7 +26,8 @@ sets-append l i (v ∷ vs) ws =
     ap (λ (k : ℕ). sets (sets (set l i v) (suc i) vs) k ws) (further i (length vs)) ∙ sets-append (set l i v) (suc i) vs ws
 
 -- a text copied over the part where it is to stand
-pub prints-part : {x y t : List ℕ} {i : ℕ} → y ≡ t → i + length t ≤ length x → Prints x i t (put_mid i (i + length t - i) x y) (i + length t)
+pub prints-part : {x y t : List ℕ} {i : ℕ} → y ≡ t → i + length t ≤ length x
+    → Prints x i t (put_mid i (i + length t - i) x y) (i + length t)
 prints-part {x} {y} {t} {i} e h =
     let n : i + length t - i ≡ length t = omega arith in
     record {

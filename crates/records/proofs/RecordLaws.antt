@@ -22,7 +22,8 @@ use Rattle.layout.specs.Layout.{blocks_max}
 use Rattle.layout.proofs.ChoiceLaws.{pick_same, clash}
 use Rattle.blocks.specs.Kinds.{all_kinds, fit_kinds}
 use Rattle.records.specs.declared.Record.TheVariants.{Ram}
-use Rattle.records.specs.Records.{Decoded, bad, ram_max, u16_at, has_mark, decode_ram, decode_write, decode_kind, decode_frame, decode_steps, decode_later, decode}
+use Rattle.records.specs.Records.{Decoded, bad, ram_max, u16_at, has_mark, decode_ram}
+use Rattle.records.specs.Records.{decode_write, decode_kind, decode_frame, decode_steps, decode_later, decode}
 
 pub ram-cut : (bs : List ℕ) → length bs < 4 → decode_ram bs ≡ bad
 unfolding decode_ram

@@ -1,4 +1,6 @@
 -- The records of a bench file. Document 01, "The bench": "records, each after a two-byte mark, numbers little-endian".
+--     Decoded, bad              what stands next, and that it is no record
+--     found r                   what a decoder of one kind of record found, as what stands next
 --     u16_at, u32_at bs i       the number at an offset; half_end: how many numbers two bytes hold
 --     has_mark a b bs           the two-byte mark
 --     needs n bs d            d where n bytes are there, else bad: a record that is cut
@@ -7,7 +9,8 @@
 --     decode_ram, decode_write, decode_kind, decode_frame, decode_steps   each kind of record
 --     decode first bs         what the bytes bs begin with; first: no record has been read yet
 -- Laws: proofs/RecordLaws.antt, proofs/SizeLaws.antt. Assumes nothing: these are definitions.
-use Rattle.std.specs.Prelude.{ℕ, ◌+◌, ◌*◌, ◌-◌, ◌/◌, ◌%◌, Bool, List, length, get_or, take, drop, eqb, leb, Result, Ok, Err, Option, None, Some}
+use Rattle.std.specs.Prelude.{ℕ, ◌+◌, ◌*◌, ◌-◌, ◌/◌, ◌%◌, Bool, List, length, get_or, take, drop, eqb, leb}
+use Rattle.std.specs.Prelude.{Result, Ok, Err, Option, None, Some}
 use Rattle.layout.specs.Choice.{pick, both}
 use Rattle.layout.specs.Layout.{blocks_max, channels}
 use Rattle.blocks.specs.Kinds.{all_kinds}
@@ -26,7 +29,7 @@ Decoded = Result (Option (Record × ℕ)) BadRecord
 abbrev pub bad : Decoded
 bad = Err (record {})
 
--- the same of a record that is asked for: there is one, or none
+-- a record that was asked for was found, or none
 abbrev pub found : Result (Record × ℕ) BadRecord → Decoded
 found (Ok p) = Ok (Some p)
 found (Err e) = Err e
@@ -85,7 +88,9 @@ engine_of e = pick (eqb e 0) Reset (engine_at ((e - 1) % 4 + 1) ((e - 1) / 4))
 abbrev pub decode_steps : List ℕ → Decoded
 decode_steps bs =
     needs 4 bs
-    (pick (both (leb (get_or bs 2 0) engine_max) (leb 1 (get_or bs 3 0))) (Ok (Some (Steps (engine_of (get_or bs 2 0)) (get_or bs 3 0), 4))) bad)
+    (pick (both (leb (get_or bs 2 0) engine_max) (leb 1 (get_or bs 3 0)))
+    (Ok (Some (Steps (engine_of (get_or bs 2 0)) (get_or bs 3 0), 4)))
+    bad)
 
 unfoldable pub decode_later : List ℕ → Decoded
 decode_later bs =

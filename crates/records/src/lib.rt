@@ -6,10 +6,10 @@
 
 #![tactic(auto)]
 
-ghost use Rattle.std.specs.Prelude.{◌≡◌, true, ◌∷◌, [], ◌+◌, ◌≤◌, ◌<◌, length};
-ghost use Rattle.records.specs.Records.{found, engine_of, decode_ram, decode_write, decode_kind, decode_frame, decode_steps, decode_later, decode};
-ghost use Rattle.records.specs.Lines.{blank, digits_max, decimal, hex_digit, hex_digits, hex8, tail_with};
-ghost use Rattle.records.specs.Lines.{line_with, line_of, sent_line, bad_line, line_max, Prints};
+ghost use Rattle.std.specs.Prelude.{◌≡◌, true, ◌+◌, ◌≤◌, ◌<◌, length};
+ghost use Rattle.records.specs.Records.{found, engine_of, decode_ram, decode_write, decode_kind, decode_frame, decode_steps};
+ghost use Rattle.records.specs.Records.{decode_later, decode};
+ghost use Rattle.records.specs.Lines.{digits_max, decimal, hex_digit, hex8, line_with, line_of, sent_line, bad_line, line_max, Prints};
 
 use blocks::kinds_fit;
 use itoa::Buffer;
@@ -31,6 +31,7 @@ pub enum Record {
 pub struct BadRecord;
 
 // What happened: a guest write, a kind change and a frame, each with its answer; a step, with the burst that it made.
+// An answer is any byte here, not only a refusal's number: `put_event` prints every one (reason a).
 #[derive(Drop)]
 pub enum Event {
     Wrote(u32, u8),
@@ -176,6 +177,7 @@ const BLANK: u8 = b' ';
 const NEWLINE: u8 = b'\n';
 
 // Stores a text where it is to stand, and gives where it ends. So does every `put_` function below.
+// `out` and `at` stay two: a struct of both needs a clause on the loan's ghost name in each function (reason d).
 fn put_text(out: &mut [u8], at: usize, text: &[u8]) -> usize
     requires { at + length text.now ≤ length out.old }
     ensures { Prints out.old at text.now out.new result }
@@ -185,6 +187,7 @@ fn put_text(out: &mut [u8], at: usize, text: &[u8]) -> usize
     end
 }
 
+// A number's decimal digits.
 fn put_decimal(out: &mut [u8], at: usize, n: u64) -> usize
     requires { at + digits_max ≤ length out.old }
     ensures { Prints out.old at (decimal n) out.new result }
@@ -202,7 +205,7 @@ fn hex_digit(d: u32) -> u8
     b'A' - 10 + d as u8
 }
 
-// The digits come from the last to the first.
+// The digits come from the last to the first. No loop of std's: `{:08X}` promises its text only where the write succeeds (reason c).
 fn hex8(a: u32) -> [u8; HEX_DIGITS]
     ensures { result ≡ hex8 a }
 {

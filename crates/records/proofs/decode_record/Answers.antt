@@ -1,7 +1,6 @@
 -- `records::decode_record`: the tests of the definition, in its order. Assumes nothing.
 use mathlib.Core.Path.{sym}
-use native.Mathlib.Omega.{arith}
-use borrow.Author.Tests.{true-eqb, false-eqb}
+use borrow.Author.Tests.{false-eqb}
 use Rattle.std.proofs.Common.{rules}
 use Rattle.records.specs.Records.{decode}
 use Rattle.records.proofs.RecordLaws.{later-is}
