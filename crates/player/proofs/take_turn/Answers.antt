@@ -17,13 +17,6 @@ act-requires g c = (
   c.requires.1,
 )
 
-pub returns-clause-turned : goal.returns-clause-turned
-returns-clause-turned g c =
-    IfOk-weaker c.act.result _ _
-    (λ r a. turned c.args.s _ _ _ _ _ _ _ _ _ c.in_ok-window.ensures.filled _ _ r _ _ _ _ _ _ c.in_ok-at.ensures.kept
-    (c.decode_record-d.ensures ∙ ap (decode _) c.bytes.ensures) a)
-    c.act.ensures.acted
-
 pub returns-clause-on : goal.returns-clause-on
 returns-clause-on g c =
     let f = c.in_ok-window.ensures.filled in
@@ -36,3 +29,6 @@ returns-clause-on g c =
       wrote = Appends-trans _ _ _ _ _ c.in_ok-at.ensures.wrote b;
     })
     c.act.ensures.acted c.act.ensures.wrote
+
+pub returns-clause-turned : goal.returns-clause-turned
+returns-clause-turned g c = IfOk-weaker c.act.result _ _ (λ r a. a.turned) (returns-clause-on g c)
