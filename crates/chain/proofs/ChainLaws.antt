@@ -24,7 +24,8 @@ use Rattle.layout.specs.declared.Side.{Side}
 use Rattle.words.specs.WordSet.{free_at, add_four, free_count}
 use Rattle.words.proofs.SetLaws.{free_count-falls}
 use Rattle.descriptor.specs.Fields.{sop, eop, owner, eoq, td, length_of, first_byte}
-use Rattle.descriptor.specs.Rules.{side_at, end_flags_fault, flags_fault, offset_bad, length_fault, end_fault, sum_fault, behind, next_fault}
+use Rattle.descriptor.specs.Rules.{side_at, end_flags_fault, flags_fault, offset_bad, length_fault}
+use Rattle.descriptor.specs.Rules.{end_fault, sum_fault, behind, next_fault}
 use Rattle.descriptor.proofs.RuleLaws.{side_at-behind}
 use Rattle.descriptor.specs.declared.Place.{Place}
 use Rattle.descriptor.specs.declared.Place.TheVariants.{Start, Middle, Buffer}
@@ -272,4 +273,5 @@ module _ (kinds : List ℕ) (w : ℕ → ℕ) (small : (k : ℕ) → w k < 2 ^ 3
   pub chain-place : (pl : Place) (met : List ℕ) (p : ℕ) → side_at pl ≡ side → p < 2 ^ 32 → Told (chain_of kinds w pl met p)
   unfolding chain_of
   chain-place pl met p e h =
-      run-all (judge_step kinds w) _ Stands Told (λ s i. (inl refl, omega arith, λ z. absurd (omega arith))) stop-told go-stands _ (pl, met, p) (e, h)
+      run-all (judge_step kinds w) _ Stands Told (λ s i. (inl refl, omega arith, λ z. absurd (omega arith)))
+      stop-told go-stands _ (pl, met, p) (e, h)

@@ -3,12 +3,13 @@
 --     judged_refused, judged_met     what the leaf hands on
 --     hand_refused, hand_end, hand_start, hand_middle, hand_buffer   what a rule answers is what follows the hand that it was given
 --     hand_less                     and that is over fewer words
---     follow_told                   the number and the place in what the rules answer; where the number is 16, the descriptor there has its
---                                   length in order
+--     leaves, hands                 these laws, for the check to try
+--     follow_number, follow_place, follow_measured   the number and the place in what the rules answer; where the number is 16, the
+--                                   descriptor there has its length in order
 --     measured_words, buffer_room_words, said_barred   the descriptor there, by its four words, and the answer
 --     verdict_told                  the answer from the rules' number
---     ends_good, single_16, verdict_single   the answer from the one descriptor of a chain
-use Prim.Native.Nat.{ℕ, ◌+◌, ◌*◌, ◌/◌, ◌%◌, ◌<◌, ◌^◌}
+--     single_16, verdict_single     the answer from the one descriptor of a chain
+use Prim.Native.Nat.{ℕ, ◌/◌, ◌%◌, ◌<◌, ◌^◌}
 use mathlib.Core.Path.{◌≡◌, refl, ap, ◌∙◌, sym}
 use mathlib.Core.Bool.{Bool, true, false}
 use mathlib.Core.Logic.{◌≢◌}
@@ -17,9 +18,9 @@ use native.Mathlib.Omega.{arith}
 use lib.Dec.{eqb}
 use borrow.Author.Tests.{eq-eqb, ne_eqb}
 use Rattle.std.specs.Prelude.{Result, Ok, Err}
-use Rattle.layout.specs.Choice.{pick, or_else}
-use Rattle.layout.proofs.ChoiceLaws.{both_left, both_right}
-use Rattle.layout.specs.Refusals.{refusal_number, fault}
+use Rattle.layout.specs.Choice.{pick}
+use Rattle.layout.proofs.ChoiceLaws.{both_right}
+use Rattle.layout.specs.Refusals.{refusal_number}
 use Rattle.layout.specs.declared.refusals.Refusal.{Refusal}
 use Rattle.layout.specs.declared.refusals.Refusal.TheVariants.{Unfit, Unsound, Misaligned, NotGuarded, NotOffered, NotInitialised}
 use Rattle.layout.specs.declared.refusals.Refusal.TheVariants.{ResetPending, TeardownPending, BadValue, Busy, WordInUse, BadPointer}
@@ -34,15 +35,13 @@ use Rattle.words.specs.WordSet.{add_four, free_count}
 use Rattle.words.proofs.WordLaws.{Bytes, word_lt}
 use Rattle.blocks.specs.Room.{room_of}
 use Rattle.blocks.specs.declared.Room.{Room}
-use Rattle.blocks.specs.declared.Room.TheVariants.{Free}
 use Rattle.descriptor.specs.Fields.{desc_at, eop, length_of, first_byte}
 use Rattle.descriptor.specs.Rules.{side_at, length_fault, sop_at, sum_at, behind}
 use Rattle.descriptor.specs.declared.Descriptor.{Descriptor}
 use Rattle.descriptor.specs.declared.Place.{Place}
 use Rattle.descriptor.specs.declared.Place.TheVariants.{Start, Middle, Buffer}
 use Rattle.descriptor.proofs.RuleLaws.{behind-end, behind-inside}
-use Rattle.chain.specs.declared.Fault.{Fault}
-use Rattle.chain.specs.Chain.{desc_fault, JSt, JOut, past_desc, judge_step, chain_of, place_of, buffer_room, Said, said, verdict_of, told}
+use Rattle.chain.specs.Chain.{desc_fault, JSt, JOut, judge_step, chain_of, place_of, buffer_room, Said, said, verdict_of}
 use Rattle.chain.specs.Hands.{unpacked, fault_of, fault_at, judged, IsNumber, Measured, single}
 use Rattle.chain.proofs.ChainLaws.{fault_at-step, fault_at-16, judge_step-falls, chain-eq, chain-place}
 
@@ -168,10 +167,6 @@ module _ (kinds m : List ℕ) (side : Side) (met : List ℕ) (p v : ℕ) (l : Li
   verdict_told n en r e = rw (← is, e, en) refl
 
 -- a chain of one descriptor: its fault is the chain's
-pub ends_good : (w : ℕ → ℕ) (p : ℕ) → single w p ≡ true → good_ptr p ≡ true
-unfolding single
-ends_good w p e = both_left (good_ptr p) (eqb (w (word_of p)) 0) e
-
 module _ (kinds : List ℕ) (w : ℕ → ℕ) (side : Side) (met : List ℕ) (p n : ℕ) (pl : Place) (at : pl ≡ place_of side)
     (is : n ≡ fault_at kinds w pl met p) where
   fault-is : n ≡ fault_at kinds w (place_of side) met p
@@ -219,3 +214,8 @@ module _ (kinds : List ℕ) (w : ℕ → ℕ) (side : Side) (p k : ℕ) (d : Des
   pub said_barred : (room : Room) → room ≡ room_of side kinds (first_byte side d.buffer d.word2 d.word3) (length_of side d.word2)
       → Err (record { number = 16; place = p; room = room }) ≡ said kinds w side (16, p, [])
   said_barred room e = rw (e, buffer_room_words) refl
+
+-- for the check to try: where the leaf hands on, and where a rule answers
+pub ruleset leaves = (fault_of_at, judged_refused, judged_met)
+
+pub ruleset hands = (hand_refused, hand_end, hand_start, hand_middle, hand_buffer, hand_less)

@@ -28,7 +28,8 @@ at-number : (b : Bool) (f : Said) → eqb f.number 0 ≡ b → verdict_number (p
 at-number true f e = sym (eqb-true f.number 0 e)
 at-number false f e = refl
 
-at-bad : (b : Bool) (f g : Said) → eqb f.number 0 ≡ b → ◌≡◌ {A = Result Unit Said} (Err g) (pick b (Ok tt) (Err f)) → (g ≡ f) × (f.number ≢ 0)
+at-bad : (b : Bool) (f g : Said) → eqb f.number 0 ≡ b → ◌≡◌ {A = Result Unit Said} (Err g) (pick b (Ok tt) (Err f))
+    → (g ≡ f) × (f.number ≢ 0)
 at-bad true f g e q = let z : ◌≡◌ {A = ℕ} 0 1 = cc in absurd (omega arith)
 at-bad false f g e q = (cc, eqb-false f.number 0 e)
 

@@ -5,6 +5,7 @@
 // Document 01, "Judging" and "Answers by number".
 // The start of a packet has one rule and its middle another, each handing on to the other. What they hand on is thin and what they
 // answer is a number, so that the call of a rule by a rule is compiled to a jump and no chain makes the stack grow.
+// Memory and kinds go side by side: a struct of both, made in this crate alone, would stand before either name in every clause.
 
 #![tactic(auto)]
 
@@ -65,9 +66,14 @@ fn descriptor_fault(kinds: &[u8], pl: Place, d: Descriptor) -> Result<(), Refusa
 }
 
 // Rules 12 and 13, then the rest, of the descriptor that a pointer names. Without fault it is met.
-#[tactic(auto, using(crate::proofs::HandLaws::fault_of_at, crate::proofs::HandLaws::judged_refused, crate::proofs::HandLaws::judged_met),
-    unfolding(crate::specs::Hands::fault_at))]
-fn judge(m: &Memory, kinds: &[u8], met: &mut Words, pl: Place, at: u32) -> Result<Descriptor, Refusal>
+#[tactic(auto, using(crate::proofs::HandLaws::leaves), unfolding(crate::specs::Hands::fault_at))]
+fn judge(
+    m: &Memory,
+    kinds: &[u8],
+    met: &mut Words,
+    pl: Place,
+    at: u32,
+) -> Result<Descriptor, Refusal>
     ensures { judged pl at result (view met.new) ≡ judge_step kinds.now (word m.now) (pl, view met.old, at) }
 {
     let slot = slot_at(at).ok_or(Refusal::BadPointer)?;
@@ -80,19 +86,20 @@ fn judge(m: &Memory, kinds: &[u8], met: &mut Words, pl: Place, at: u32) -> Resul
     Ok(d)
 }
 
-// A refusal and its place travel as one number, with the refusal's number in the low byte and 0 for none.
-// The rules answer in this form: a Result is handed back through memory, and then no call of a rule is a jump (tried).
+// A refusal and its place travel as one number, with the refusal's number in the low byte, and 0 where there is none.
+// In place of a Result, which is handed back through memory: with it no call of a rule by a rule is a jump (tried).
 const LOW_BYTE: u64 = 256;
 
+// A refusal as the rules answer it.
 fn refused(r: Refusal, at: u32) -> u64
     ensures { (result % 256 ≡ refusal_number r) × (result / 256 ≡ at) }
 {
     u8::from(r) as u64 + LOW_BYTE * at as u64
 }
 
-// The transmit chain from at, where a packet starts. The kinds come by a thin reference, so that all that the rules hand on is in registers.
+// The transmit chain from at, where a packet starts. The kinds come by a thin reference: all that a rule hands on fits in registers.
 #[cycle(middle_rule_start_rule)]
-#[tactic(auto, using(crate::proofs::HandLaws::hand_refused, crate::proofs::HandLaws::hand_end, crate::proofs::HandLaws::hand_start, crate::proofs::HandLaws::hand_middle, crate::proofs::HandLaws::hand_less))]
+#[tactic(auto, using(crate::proofs::HandLaws::hands))]
 fn start_rule(m: &Memory, kinds: &&[u8], met: &mut Words, at: u32) -> u64
     ensures { unpacked result (view met.new) ≡ chain_of kinds.now.now (word m.now) Place.Start (view met.old) at }
 {
@@ -106,20 +113,21 @@ fn start_rule(m: &Memory, kinds: &&[u8], met: &mut Words, at: u32) -> u64
 
 // The transmit chain from at, in the middle of a packet: sop is word 3 of its first descriptor, sum the lengths so far.
 #[cycle(middle_rule_start_rule)]
-#[tactic(auto, using(crate::proofs::HandLaws::hand_refused, crate::proofs::HandLaws::hand_end, crate::proofs::HandLaws::hand_start, crate::proofs::HandLaws::hand_middle, crate::proofs::HandLaws::hand_less))]
+#[tactic(auto, using(crate::proofs::HandLaws::hands))]
 fn middle_rule(m: &Memory, kinds: &&[u8], met: &mut Words, at: u32, sop: u32, sum: u32) -> u64
     ensures { unpacked result (view met.new) ≡ chain_of kinds.now.now (word m.now) (Place.Middle sop sum) (view met.old) at }
 {
-    match judge(m, *kinds, met, Place::Middle(sop, sum), at) {
+    let here = Place::Middle(sop, sum);
+    match judge(m, *kinds, met, here, at) {
         Err(r) => refused(r, at),
         Ok(d) if d.next == 0 => 0,
         Ok(d) if has_flag(d.word3, Flag::Eop) => start_rule(m, kinds, met, d.next),
-        Ok(d) => middle_rule(m, kinds, met, d.next, sop, Place::Middle(sop, sum).sum_at(d)),
+        Ok(d) => middle_rule(m, kinds, met, d.next, sop, here.sum_at(d)),
     }
 }
 
 // The receive chain from at.
-#[tactic(auto, using(crate::proofs::HandLaws::hand_refused, crate::proofs::HandLaws::hand_end, crate::proofs::HandLaws::hand_buffer, crate::proofs::HandLaws::hand_less))]
+#[tactic(auto, using(crate::proofs::HandLaws::hands))]
 fn receive_rule(m: &Memory, kinds: &&[u8], met: &mut Words, at: u32) -> u64
     ensures { unpacked result (view met.new) ≡ chain_of kinds.now.now (word m.now) Place.Buffer (view met.old) at }
 {
@@ -140,7 +148,7 @@ fn follow(side: Side, m: &Memory, kinds: &[u8], met: &mut Words, at: u32) -> u64
     }
 }
 
-// The answer whose number the rules give.
+// The refusal of a number that the rules answer, or none for 0.
 fn numbered(n: u8) -> Result<(), Refusal>
     requires { IsNumber n }
     ensures { fault result ≡ n }
@@ -158,7 +166,13 @@ fn numbered(n: u8) -> Result<(), Refusal>
 
 // The answer with its place: with 16 the buffer there is asked once more, for the block.
 #[tactic(auto, using(crate::proofs::HandLaws::measured_words, crate::proofs::HandLaws::said_barred))]
-fn verdict_at(side: Side, m: &Memory, kinds: &[u8], found: Result<(), Refusal>, place: u32) -> Result<(), Fault>
+fn verdict_at(
+    side: Side,
+    m: &Memory,
+    kinds: &[u8],
+    found: Result<(), Refusal>,
+    place: u32,
+) -> Result<(), Fault>
     requires { fault found ≡ 16 → Measured (word m.now) side place }
     ensures { told result ≡ said kinds.now (word m.now) side (fault found, place, []) }
 {
@@ -177,11 +191,18 @@ fn verdict_at(side: Side, m: &Memory, kinds: &[u8], found: Result<(), Refusal>, 
 }
 
 // What is said of a chain. met comes in with the words in use, so that 13 is one test, and goes out with the words met added.
-pub fn check_chain(side: Side, m: &Memory, kinds: &[u8], met: &mut Words, at: u32) -> Result<(), Fault>
+pub fn check_chain(
+    side: Side,
+    m: &Memory,
+    kinds: &[u8],
+    met: &mut Words,
+    at: u32,
+) -> Result<(), Fault>
     ensures { (told result, view met.new) ≡ verdict_of side kinds.now (word m.now) (view met.old) at }
 {
     let v = follow(side, m, kinds, met, at);
-    verdict_at(side, m, kinds, numbered((v % LOW_BYTE) as u8), (v / LOW_BYTE) as u32)
+    let found = numbered((v % LOW_BYTE) as u8);
+    verdict_at(side, m, kinds, found, (v / LOW_BYTE) as u32)
 }
 
 // Where a chain of a side begins.
@@ -194,7 +215,7 @@ fn first_place(side: Side) -> Place
     }
 }
 
-// As judge, but 13 is asked of the words in use alone, and nothing is met.
+// As judge, but 13 is asked of the words in use, and nothing is met: how the words met are stored is seen in crate words alone.
 #[tactic(auto, using(crate::proofs::HandLaws::fault_of_at), unfolding(crate::specs::Hands::fault_at))]
 fn fault_in_use(m: &Memory, kinds: &[u8], used: &Words, pl: Place, at: u32) -> Result<(), Refusal>
     ensures { fault result ≡ fault_at kinds.now (word m.now) pl used.now at }
@@ -216,9 +237,16 @@ pub fn is_single(m: &Memory, at: u32) -> bool
 
 // What is said of such a chain. It meets no word twice, and no set of words met is made.
 #[tactic(auto, using(crate::proofs::HandLaws::verdict_single))]
-pub fn check_single(side: Side, m: &Memory, kinds: &[u8], used: &Words, at: u32) -> Result<(), Fault>
+pub fn check_single(
+    side: Side,
+    m: &Memory,
+    kinds: &[u8],
+    used: &Words,
+    at: u32,
+) -> Result<(), Fault>
     requires { single (word m.now) at ≡ true }
     ensures { told result ≡ (verdict_of side kinds.now (word m.now) used.now at).0 }
 {
-    verdict_at(side, m, kinds, fault_in_use(m, kinds, used, first_place(side), at), at)
+    let found = fault_in_use(m, kinds, used, first_place(side), at);
+    verdict_at(side, m, kinds, found, at)
 }

@@ -5,4 +5,3 @@ use Rattle.chain.proofs.buffer_room.Goals as goal
 
 pub room_of-requires : goal.room_of-requires
 room_of-requires c = omega (arith, length_fault-length _ _ _ _ c.requires, length_fault-end _ _ _ _ c.requires)
-

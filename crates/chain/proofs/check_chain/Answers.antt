@@ -4,14 +4,14 @@ use native.Mathlib.Omega.{arith}
 use Rattle.chain.proofs.HandLaws.{follow_number, follow_place, follow_measured, verdict_told}
 use Rattle.chain.proofs.check_chain.Goals as goal
 
-pub numbered-requires : goal.numbered-requires
-numbered-requires c = follow_number _ _ _ _ _ _ _ c.follow-v.ensures c.fits-m c.ranges.at.fits
+pub numbered-found-requires : goal.numbered-found-requires
+numbered-found-requires c = follow_number _ _ _ _ _ _ _ c.follow-v.ensures c.fits-m c.ranges.at.fits
 
 pub overflow_cast-v-2 : goal.overflow_cast-v-2
 overflow_cast-v-2 c = omega (arith, follow_place _ _ _ _ _ _ _ c.follow-v.ensures c.fits-m c.ranges.at.fits)
 
 pub verdict_at-requires : goal.verdict_at-requires
-verdict_at-requires c = follow_measured _ _ _ _ _ _ _ c.follow-v.ensures c.fits-m c.ranges.at.fits _ c.numbered.ensures
+verdict_at-requires c = follow_measured _ _ _ _ _ _ _ c.follow-v.ensures c.fits-m c.ranges.at.fits _ c.numbered-found.ensures
 
 pub returns : goal.returns
-returns c = verdict_told _ _ _ _ _ _ _ c.follow-v.ensures _ c.numbered.ensures _ c.verdict_at.ensures
+returns c = verdict_told _ _ _ _ _ _ _ c.follow-v.ensures _ c.numbered-found.ensures _ c.verdict_at.ensures
