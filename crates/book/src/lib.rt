@@ -6,18 +6,13 @@
 
 #![tactic(auto)]
 
-ghost use Rattle.std.specs.Prelude.{◌≡◌, true, false, ◌≤◌, ◌<◌, ◌+◌, length, get_or, eqb};
-ghost use Rattle.layout.specs.Choice.{pick, both};
-ghost use Rattle.layout.specs.Bits.{clear_bit};
-ghost use Rattle.layout.specs.Layout.{desc_bytes, queues};
+ghost use Rattle.std.specs.Prelude.{◌≡◌};
 ghost use Rattle.words.specs.Word.{word};
 ghost use Rattle.registers.specs.Table.{heads_of, cps_of, tearings_of};
-ghost use Rattle.registers.specs.Rules.{teardown_done};
 ghost use Rattle.book.specs.HandOver.{recorded_length, take_one, drop_one, hand_over_step, taken_from};
-ghost use Rattle.book.specs.Release.{through, plan, release_step, released_from};
-ghost use Rattle.book.specs.Release.{reset_over, settled, released_flags, release_mode, released_heads, released_book};
-ghost use Rattle.book.specs.Sound.{walk_step, walk_from, walk_all, first_step, firsts_from, firsts_all};
-ghost use Rattle.book.specs.Sound.{same_list, length_fits, lengths_fit};
+ghost use Rattle.book.specs.Release.{through, plan, release_step, released_from, reset_over, settled, released_flags};
+ghost use Rattle.book.specs.Release.{release_mode, released_heads, released_book};
+ghost use Rattle.book.specs.Sound.{walk_step, walk_from, walk_all, first_step, firsts_from, firsts_all, length_fits, lengths_fit};
 ghost use Rattle.book.specs.World.{sound_book};
 ghost use Rattle.book.specs.Quiet.{held, held_all, quiet};
 ghost use Rattle.book.specs.Hops.{turned, taken, walked, noted};
@@ -32,8 +27,7 @@ use registers::{
     is_resetting,
 };
 
-// The parts of a book are lent apart, as C lends them: a struct of three `&mut` is no plainer, since each function would then have to
-// promise of each of the three that it is still the caller's.
+// The parts of a book stay lent apart, as C lends them: of a struct of three `&mut`, each function would have to promise each loan's name.
 
 // Where the release stands: at a queue's head, in a packet that goes, or in the rest of a queue that goes.
 #[derive(Clone, Copy)]
@@ -206,6 +200,7 @@ fn release_at(
 }
 
 // One queue from p on: what goes, goes descriptor by descriptor, and the head that is left is the answer.
+// A recursion, as document 01 names it.
 fn release_from(m: &Memory, used: &mut Words, lens: &mut Lengths, p: u32, mode: Mode) -> u32
     ensures { (result, (used.new, lens.new))
         ≡ released_from (word m.now) (used.old, lens.old) p mode }

@@ -3,7 +3,7 @@
 --     Counting, counting-first, -next, -last   how many of the first k entries are not 0
 --     one_most                 one more at most
 --     Tallying, tallying-first, -next, -yes, -no   the same, and the highest of them: the words to meet
---     Spending, spending-first, -next, -last   what the queues of a side leave, from channel c on
+--     Spending, spending-next, -last   what the queues of a side leave, from channel c on
 use Prim.Native.Nat.{ℕ, zero, suc, ◌+◌, ◌*◌, ◌≤◌, ◌<◌, max}
 use mathlib.Core.Path.{◌≡◌, refl, ap, ◌∙◌, sym}
 use mathlib.Core.Bool.{Bool, true, false, not}
@@ -143,9 +143,6 @@ module _ (w : ℕ → ℕ) (ask : List ℕ → ℕ → Bool) (side : Side) where
 
   pub record Spending (t s₀ : List ℕ) (left₀ c : ℕ) (s : List ℕ) (left : ℕ) : Type 0 where
     pub rest : walked (drop (2 * c) (heads_of t)) s left ≡ walked (heads_of t) s₀ left₀
-
-  pub spending-first : (t s : List ℕ) (left : ℕ) → Spending t s left 0 s left
-  spending-first t s left = record { rest = refl }
 
   pub spending-next : {t s₀ : List ℕ} {left₀ c : ℕ} {s : List ℕ} {left : ℕ} {v : List ℕ} {x : ℕ} → c < channels
       → (x, v) ≡ spent_from w ask s (get_or t (queue_of side c) 0) left → Spending t s₀ left₀ c s left → Spending t s₀ left₀ (c + 1) v x

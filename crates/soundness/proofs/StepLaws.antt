@@ -7,16 +7,14 @@ use Prim.Native.Nat.{ℕ, ◌-◌, ◌≤◌, ◌<◌}
 use mathlib.Core.Path.{◌≡◌, refl, ap, ◌∙◌, sym}
 use mathlib.Core.Bool.{Bool, true, false}
 use mathlib.Core.List.{List}
-use mathlib.Core.Logic.{◌≢◌}
 use native.Mathlib.Omega.{arith}
 use lib.Dec.{eqb, leb}
-use borrow.Author.Tests.{eq-eqb, ne_eqb, leb-true, le-leb, lt-leb}
+use borrow.Author.Tests.{eq-eqb, leb-true}
 use Rattle.layout.specs.Choice.{pick, both}
 use Rattle.layout.specs.Run.{Next, go, stop, after}
 use Rattle.layout.specs.Layout.{good_ptr, word_of}
 use Rattle.layout.proofs.ChoiceLaws.{both_left, both_right}
-use Rattle.layout.proofs.RunLaws.{run-eq, told-on, told-less}
-use Rattle.words.specs.WordSet.{add_four}
+use Rattle.layout.proofs.RunLaws.{run-eq}
 use Rattle.soundness.specs.Spent.{SSt, SOut, lost, spend_step, spent_from}
 
 module _ (w : ℕ → ℕ) (ask : List ℕ → ℕ → Bool) where

@@ -14,10 +14,9 @@ ghost use Rattle.book.specs.World.{sound_book};
 ghost use Rattle.soundness.specs.Spent.{ask_length, ask_of, spend_step, spent_from, words_to_meet, left_of};
 ghost use Rattle.soundness.specs.Hops.{spent};
 
-use std::ops::ControlFlow;
-
 use layout::{CHANNELS, LENGTH_MAX, Lengths, Memory, Side, Slot, Words, slot_at};
 use registers::{State, are_flags};
+use std::ops::ControlFlow;
 
 // Left where a walk is not as it should be: walks take away by fours, so no multiple of four is ever left from there.
 const LOST: u32 = 1;

@@ -1,5 +1,5 @@
 -- `soundness::count_words` has counted the entries passed, and has the highest. Assumes nothing.
-use Rattle.std.proofs.Common.{◌≡◌, ◌≤◌, length, ◌∙◌, arith}
+use Rattle.std.proofs.Common.{◌≤◌, length, ◌∙◌, arith}
 use Rattle.soundness.proofs.LoopLaws.{one_most, tallying-first, tallying-next, tallying-yes, tallying-no}
 use Rattle.soundness.proofs.count_words.Goals as goal
 
