@@ -53,6 +53,8 @@ fn block_fault(kinds: &[u8], side: Side, d: Descriptor) -> Result<(), Refusal>
 }
 
 // Rules 14 to 17 of a descriptor: the lowest number.
+// As judge, it is compiled into each rule, where the place is known: that halves the instructions of a long chain.
+#[inline(always)]
 #[tactic(auto, unfolding(crate::specs::Hands::fault_of))]
 fn descriptor_fault(kinds: &[u8], pl: Place, d: Descriptor) -> Result<(), Refusal>
     ensures { fault result ≡ fault_of kinds.now pl d }
@@ -66,6 +68,7 @@ fn descriptor_fault(kinds: &[u8], pl: Place, d: Descriptor) -> Result<(), Refusa
 }
 
 // Rules 12 and 13, then the rest, of the descriptor that a pointer names. Without fault it is met.
+#[inline(always)]
 #[tactic(auto, using(crate::proofs::HandLaws::leaves), unfolding(crate::specs::Hands::fault_at))]
 fn judge(
     m: &Memory,
