@@ -37,7 +37,6 @@ none_left q t h = drop_of_length-le (take queues t) {i = q} (omega (arith, lengt
 abbrev pub so_far : Bool → WOut → WOut
 so_far b r = (both b r.0, r.1)
 
-
 walk-nil : (w : ℕ → ℕ) (met : List ℕ) → walk_all w [] met ≡ (true, met)
 unfolding walk_all
 walk-nil w met = refl

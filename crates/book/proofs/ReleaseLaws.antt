@@ -23,8 +23,8 @@ use Rattle.words.proofs.SetLaws.{has-true, words_in_use-falls}
 use Rattle.registers.specs.Table.{tearings_of, cps_of, set_tearings, unmarked}
 use Rattle.book.specs.declared.Mode.{Mode}
 use Rattle.book.specs.HandOver.{Uses, drop_one}
-use Rattle.book.specs.Release.{Plan, RSt, ROut, plan, planned, release_step, released_from, reset_over, settled, released_flags, release_mode}
-use Rattle.book.specs.Release.{released_heads, released_book}
+use Rattle.book.specs.Release.{Plan, RSt, ROut, plan, planned, release_step, released_from, reset_over, settled, released_flags}
+use Rattle.book.specs.Release.{release_mode, released_heads, released_book}
 use Rattle.book.specs.World.{World, release}
 
 -- ---- the measure

@@ -2,7 +2,7 @@
 -- Else OWNER clear, the queue goes through its first EOP descriptor (or to the end if none); if that one has EOQ the rest
 -- goes too; else repeat. OWNER set stops."
 --     Mode             where the walk stands: at a queue's head (Head), in a packet that goes (Packet), in a rest that goes (All)
---     Plan             what becomes of a descriptor: None, it is kept with all behind it; or Some, dropped, and the walk goes on in that mode
+--     Plan             what becomes of a descriptor: it is kept with all behind it (None), or dropped and the walk goes on in a mode (Some)
 --     plan mode x3     the plan for a descriptor, by its word 3
 --     released_from w u p mode   one queue: its new head, and words in use and lengths
 --     released_all w mode heads u   every queue in turn

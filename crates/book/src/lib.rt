@@ -23,7 +23,10 @@ ghost use Rattle.book.specs.Quiet.{held, held_all, quiet};
 ghost use Rattle.book.specs.Hops.{turned, taken, walked, noted};
 
 use descriptor::{Flag, has_flag};
-use layout::{CHANNELS, Lengths, Memory, QUEUES, Side, Slot, TEARDOWN_DONE, Words, clear_bit, slot_at};
+use layout::{
+    CHANNELS, LENGTH_MAX, Lengths, Memory, QUEUES, Side, Slot, TEARDOWN_DONE, Words, clear_bit,
+    slot_at,
+};
 use registers::{
     CP_AT, MARKS_AT, RESET_AT, State, TEARING_AT, are_flags, has_reset_bit, is_any_tearing,
     is_resetting,
@@ -90,11 +93,7 @@ fn note_from(m: &Memory, firsts: &mut Words, mut p: u32)
 fn length_fits(first: u8, len: u16) -> bool
     ensures { result ≡ length_fits first len }
 {
-    if first == 0 {
-        len == 0
-    } else {
-        1 <= len && u32::from(len) <= layout::LENGTH_MAX
-    }
+    (first == 0) == (len == 0) && u32::from(len) <= LENGTH_MAX
 }
 
 // Whether each recorded length fits. All are asked, and none ends it early, so that it is compiled to many entries a turn.

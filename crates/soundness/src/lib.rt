@@ -68,7 +68,7 @@ fn is_owed(side: Side, used: &Words, lens: &Lengths, met: &Words, d: Slot) -> bo
 }
 
 // The descriptor at p is met: the walk goes on at the next pointer with four fewer left, or it is over with so many left.
-#[tactic(auto, unfolding(crate::specs::Spent::spend_step))]
+#[tactic(auto, using(book::proofs::SoundLaws::good_not_zero), unfolding(crate::specs::Spent::spend_step))]
 fn meet_at(
     m: &Memory,
     side: Side,
@@ -81,17 +81,14 @@ fn meet_at(
     ensures { spent result met.new
         ≡ spend_step (word m.now) (ask_of side used.now lens.now) (met.old, p, left) }
 {
-    if p == 0 {
-        return ControlFlow::Break(left);
+    match slot_at(p) {
+        Some(d) if 4 <= left && is_owed(side, used, lens, met, d) => {
+            words::take_four(met, d);
+            ControlFlow::Continue((words::word_of(m, d.word), left - 4))
+        }
+        None if p == 0 => ControlFlow::Break(left),
+        _ => ControlFlow::Break(LOST),
     }
-    let Some(d) = slot_at(p) else {
-        return ControlFlow::Break(LOST);
-    };
-    if left < 4 || !is_owed(side, used, lens, met, d) {
-        return ControlFlow::Break(LOST);
-    }
-    words::take_four(met, d);
-    ControlFlow::Continue((words::word_of(m, d.word), left - 4))
 }
 
 // What the queue from p leaves of the words in use.

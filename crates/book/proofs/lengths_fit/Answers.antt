@@ -12,7 +12,7 @@ returns c =
     let xs = c.args.firsts.now in
     let ys = c.args.lens.now in
     fold_over (zips fronts fronts) (λ p. (p.0.now, p.1.now)) _ (λ l b. b ≡ fold fit_on true l) _
-        (λ l a x b f h k. (fit-next l (x.0.now, x.1.now) h (search rules), search rules))
-        c.zip.result (zip xs ys) true c.fold.result
-        (YieldsList-from_zip (YieldsList-from_slice xs (search rules)) (YieldsList-from_slice ys (search rules))).runs refl c.fold.ensures.ran
+    (λ l a x b f h k. (fit-next l (x.0.now, x.1.now) h (search rules), search rules))
+    c.zip.result (zip xs ys) true c.fold.result
+    (YieldsList-from_zip (YieldsList-from_slice xs (search rules)) (YieldsList-from_slice ys (search rules))).runs refl c.fold.ensures.ran
     ∙ lengths_fit-is xs ys (search rules)

@@ -8,7 +8,7 @@ use Rattle.book.proofs.settle.Goals.{then-t-q, else-t-q}
 pub loop-q-preserved : goal.loop-q-preserved
 loop-q-preserved c = settling-next c.loop-q-test.true
     (elim c.if-t-q.branch [
-      then-t-q w ↦ w.mask-is ∙ simp (eq-eqb _ _ w.if-t-q.true) w.clear_bit-mask.ensures
+      | then-t-q w ↦ w.mask-is ∙ simp (eq-eqb _ _ w.if-t-q.true) w.clear_bit-mask.ensures
       | else-t-q w ↦ w.mask-is ∙ simp (ne_eqb _ _ w.if-t-q.false)
     ])
     c.loop-q.invariant

@@ -6,7 +6,9 @@ use Rattle.book.specs.HandOver.{taken_from}
 use Rattle.book.proofs.take_chain.Given as goal
 
 abbrev pub invariant-loop-next : goal.invariant-loop-next
-invariant-loop-next l = taken_from (word l.m) l.side (l.used, l.lens) l.p ≡ taken_from (word l.m) l.side (l.initial.used, l.initial.lens) l.initial.p
+invariant-loop-next l =
+    taken_from (word l.m) l.side (l.used, l.lens) l.p
+    ≡ taken_from (word l.m) l.side (l.initial.used, l.initial.lens) l.initial.p
 
 abbrev pub decreases-loop-next : goal.decreases-loop-next
 decreases-loop-next l = free_count l.used
