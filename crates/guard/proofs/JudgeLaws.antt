@@ -1,13 +1,15 @@
 -- What the judges' definitions say, case by case, in the form that the functions' proofs cite. Assumes nothing.
 --     last_of-is, last_none, last-stop, last-go   the last descriptor of a queue, step by step, by the numbers of words
 --     last-test, last-no                         whether it begins at a word
---     tail-bound                                 it is one of them
-use Rattle.std.proofs.Common.{◌≡◌, ℕ, zero, suc, ◌+◌, ◌-◌, ◌/◌, ◌<◌, ◌≤◌, Bool, true, false, eqb, List, [], ◌∷◌, length, take, sym, Option, Some, None}
+--     tail-bound                                 a queue whose last descriptor begins at a word is one of them
+--     word-found, word-none                      the word at an address
+use Rattle.std.proofs.Common.{◌≡◌, ℕ, zero, suc, ◌+◌, ◌-◌, ◌/◌, ◌%◌, ◌<◌, ◌≤◌, Bool, true, false, eqb, List, [], ◌∷◌, length, take, sym, Option, Some, None}
 use Rattle.std.proofs.lemmas.List.{length-take}
 use Rattle.std.proofs.Common.{refl, ap, ◌∙◌, arith, eq-eqb, ne_eqb, eqb-true}
 use borrow.Author.Tests.{eqb-false}
-use Rattle.layout.specs.Choice.{pick}
+use Rattle.layout.specs.Choice.{pick, both}
 use Rattle.layout.specs.Layout.{desc_first, good_ptr, word_of, addr, desc_words, in_descriptors}
+use Rattle.layout.proofs.ChoiceLaws.{both_left, both_right}
 use Rattle.layout.proofs.PointerLaws.{good_ptr-is, word_of-addr, in_descriptors-bounds}
 use Rattle.guard.specs.Judges.{last_from, last_of, is_last, tail_in}
 
@@ -80,19 +82,29 @@ pub tail-bound : (w : ℕ → ℕ) (k n : ℕ) (t : List ℕ) (j : ℕ) → tail
 tail-bound w k n t j e = let l = tail-lt w k 0 (take n t) j e in omega (arith, length-take n t)
 
 -- ---- which word
--- a word that was found at an address lies in descriptor memory
-pub word-found : (a k : ℕ) → ◌≡◌ {A = Option ℕ} (Some k) (pick (in_descriptors a) (Some ((a - desc_first) / 4)) None)
-    → (in_descriptors a ≡ true) × (k ≡ (a - desc_first) / 4) × (k < desc_words)
-word-found a k e = at (in_descriptors a) refl e
-  where
-    at : (b : Bool) → in_descriptors a ≡ b → ◌≡◌ {A = Option ℕ} (Some k) (pick b (Some ((a - desc_first) / 4)) None)
-        → (in_descriptors a ≡ true) × (k ≡ (a - desc_first) / 4) × (k < desc_words)
-    at true i f = let j : k ≡ (a - desc_first) / 4 = cc in (i, j, omega (arith, in_descriptors-bounds a i))
-    at false i f = cc
+module _ (a : ℕ) where
+  abbrev found : Bool → Option ℕ
+  found b = pick b (Some ((a - desc_first) / 4)) None
 
-pub word-none : (a : ℕ) → ◌≡◌ {A = Option ℕ} None (pick (in_descriptors a) (Some ((a - desc_first) / 4)) None) → in_descriptors a ≡ false
-word-none a e = at (in_descriptors a) refl e
-  where
-    at : (b : Bool) → in_descriptors a ≡ b → ◌≡◌ {A = Option ℕ} None (pick b (Some ((a - desc_first) / 4)) None) → in_descriptors a ≡ false
-    at true i f = cc
-    at false i f = i
+  found-at : (b : Bool) (k : ℕ) → Some k ≡ found b → (b ≡ true) × (k ≡ (a - desc_first) / 4)
+  found-at true k e = (refl, cc)
+  found-at false k e = cc
+
+  none_at : (b : Bool) → None ≡ found b → b ≡ false
+  none_at true e = cc
+  none_at false e = refl
+
+  -- an address at which a word was found lies in descriptor memory, and is a multiple of 4
+  pub word-found : (k : ℕ) → Some k ≡ found (both (in_descriptors a) (eqb (a % 4) 0))
+      → (in_descriptors a ≡ true) × (a % 4 ≡ 0) × (k ≡ (a - desc_first) / 4) × (k < desc_words)
+  word-found k e =
+      let f = found-at (both (in_descriptors a) (eqb (a % 4) 0)) k e in
+      let i = both_left (in_descriptors a) (eqb (a % 4) 0) f.0 in
+      (i, eqb-true (a % 4) 0 (both_right (in_descriptors a) (eqb (a % 4) 0) f.0), f.1, omega (arith, in_descriptors-bounds a i))
+
+  pub word-none : a % 4 ≡ 0 → None ≡ found (both (in_descriptors a) (eqb (a % 4) 0)) → in_descriptors a ≡ false
+  word-none h e = at (in_descriptors a) (eqb (a % 4) 0) (eq-eqb (a % 4) 0 h) (none_at (both (in_descriptors a) (eqb (a % 4) 0)) e)
+    where
+      at : (b d : Bool) → d ≡ true → both b d ≡ false → b ≡ false
+      at true d f g = cc
+      at false d f g = refl

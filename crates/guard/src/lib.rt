@@ -6,8 +6,8 @@
 
 #![tactic(auto)]
 
-ghost use Rattle.std.specs.Prelude.{◌≡◌, ℕ, ◌+◌, ◌-◌, ◌/◌, ◌<◌, true, false, List, Some, None, IfSome, MatchOption};
-ghost use Rattle.layout.specs.Choice.{pick};
+ghost use Rattle.std.specs.Prelude.{◌≡◌, ◌==◌, ℕ, ◌-◌, ◌/◌, ◌%◌, ◌<◌, true, false, List, Some, None, IfSome, MatchOption};
+ghost use Rattle.layout.specs.Choice.{pick, both};
 ghost use Rattle.layout.specs.Layout.{desc_first, desc_words, queues, addr, in_descriptors};
 ghost use Rattle.layout.specs.Refusals.{fault};
 ghost use Rattle.words.specs.Word.{word};
@@ -347,11 +347,12 @@ fn judge_word(
     judge_last(k, v, m, kinds, t, used, lens)
 }
 
-// The word of descriptor memory that lies at a, if one does.
+// The word of descriptor memory whose address is a, if it is one's.
 fn word_at(a: u32) -> Option<usize>
-    ensures { result ≡ pick (in_descriptors a) (Some ((a - desc_first) / 4)) None }
+    ensures { result
+        ≡ pick (both (in_descriptors a) (a % 4 == 0)) (Some ((a - desc_first) / 4)) None }
 {
-    if is_descriptor(a) {
+    if is_descriptor(a) && a % 4 == 0 {
         Some(((a - DESC_FIRST) / 4) as usize)
     } else {
         None
@@ -449,11 +450,10 @@ fn stored_word(a: u32, m: &Memory, t: &State, used: &Words) -> Option<usize>
         × (plain_store a (word m.now) t.now used.now ≡ true)) }
 {
     let k = word_at(a)?;
-    if a % 4 == 0 && !is_used(used, k) && is_quiet(m, t) {
-        Some(k)
-    } else {
-        None
+    if is_used(used, k) {
+        return None;
     }
+    if is_quiet(m, t) { Some(k) } else { None }
 }
 
 // The queue whose CP stands at a, if one does. The list of classes is not asked.
@@ -461,7 +461,10 @@ fn cp_queue(a: u32) -> Option<usize>
     ensures { IfSome result (λ q. (q < queues) × (a ≡ cp_address q)) }
 {
     let d = a.wrapping_sub(CP_FIRST);
-    if 2 * CP_SIDE <= d || d % 4 != 0 {
+    if 2 * CP_SIDE <= d {
+        return None;
+    }
+    if d % 4 != 0 {
         return None;
     }
     let q = (2 * (d % CP_SIDE / 4) + d / CP_SIDE) as usize;
@@ -494,7 +497,9 @@ pub fn guest_write_sound(
         (guest_write a v (world_at m.old kinds.now t.old used.old lens.old)) result
         m.new kinds.now t.new used.new lens.new }
 {
-    let m = m.as_mut_array().unwrap();
+    let Some(m) = m.as_mut_array() else {
+        unreachable!()
+    };
     if let Some(k) = stored_word(a, m, t, used) {
         put_at(m, k, v);
         return Answer::Accepted(Effect::Plain);

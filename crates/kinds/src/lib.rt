@@ -31,7 +31,11 @@ const LAST_WORD: usize = DESC_WORDS - 1;
 fn is_touching(m: &Memory, i: usize, n: u16, b: u32) -> bool
     ensures { result ≡ touches b (word m.now (i + 1)) n }
 {
-    if n == 0 || LAST_WORD <= i {
+    // Two tests and not `||`, which is compiled to both at each word.
+    if n == 0 {
+        return false;
+    }
+    if LAST_WORD <= i {
         return false;
     }
     touches_block(b, word_of(m, i + 1), u32::from(n))

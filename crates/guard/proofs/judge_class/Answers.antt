@@ -3,10 +3,9 @@ use Rattle.std.proofs.Common.{ℕ, refl, ap, ◌∙◌, arith}
 use Rattle.layout.specs.Layout.{queue_of}
 use Rattle.layout.specs.declared.Side.{Side}
 use Rattle.registers.specs.Rules.{tear_queue}
-use Rattle.registers.proofs.RegisterLaws.{queue_of-side}
 use Rattle.guard.proofs.GivesLaws.{class-head}
 use Rattle.guard.proofs.ClassLaws.{class-ack, class-teardown, class-reset, class-zero, class-passed, class-unoffered, class_low}
-use Rattle.guard.proofs.ClassLaws.{class-mid, class-past}
+use Rattle.guard.proofs.ClassLaws.{class-mid, class-past, queue_of-side}
 use Rattle.guard.proofs.judge_class.Goals as goal
 
 pub returns-in-34 : goal.returns-in-34
