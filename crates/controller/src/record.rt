@@ -57,7 +57,7 @@ pub fn are_all_quiet(all: &[Channel; CHANNELS]) -> bool
 
 impl Controller {
     // HDP of queue q.
-    pub fn hdp(&self, q: usize) -> u32
+    pub(crate) fn hdp(&self, q: usize) -> u32
         requires { q < queues }
         ensures { result ≡ hdp_of self.now.state q }
     {
@@ -65,7 +65,7 @@ impl Controller {
     }
 
     // CP of queue q.
-    pub fn cp(&self, q: usize) -> u32
+    pub(crate) fn cp(&self, q: usize) -> u32
         requires { q < queues }
         ensures { result ≡ cp_of self.now.state q }
     {
@@ -73,7 +73,7 @@ impl Controller {
     }
 
     // Which teardown step of queue q comes next.
-    pub fn stage(&self, q: usize) -> u8
+    pub(crate) fn stage(&self, q: usize) -> u8
         requires { q < queues }
         ensures { result ≡ stage_of self.now q }
     {
@@ -81,7 +81,7 @@ impl Controller {
     }
 
     // Whether reset or the teardown of queue q is pending.
-    pub fn is_held(&self, q: usize) -> bool
+    pub(crate) fn is_held(&self, q: usize) -> bool
         requires { q < queues }
         ensures { result ≡ held_back self.now q }
     {
@@ -89,7 +89,7 @@ impl Controller {
     }
 
     // Whether the engine of queue q is idle, waiting or, transmit only, at 1 of a new packet.
-    pub fn is_quiet(&self, q: usize) -> bool
+    pub(crate) fn is_quiet(&self, q: usize) -> bool
         requires { q < queues }
         ensures { result ≡ quiet_engine self.now q }
     {
@@ -101,7 +101,7 @@ impl Controller {
     }
 
     // The engine of queue q idle.
-    pub fn set_idle(&mut self, q: usize)
+    pub(crate) fn set_idle(&mut self, q: usize)
         requires { q < queues }
         ensures { self.new ≡ set_idle q self.old }
     {
@@ -112,7 +112,7 @@ impl Controller {
     }
 
     // A start puts the transmit engine at step 1, or the receive engine to waiting.
-    pub fn begin(&mut self, q: usize)
+    pub(crate) fn begin(&mut self, q: usize)
         requires { q < queues }
         ensures { self.new ≡ set_begun q self.old }
     {
@@ -123,7 +123,7 @@ impl Controller {
     }
 
     // HDP and CP of queue q.
-    pub fn set_registers(&mut self, q: usize, hdp: u32, cp: u32)
+    pub(crate) fn set_registers(&mut self, q: usize, hdp: u32, cp: u32)
         requires { q < queues }
         ensures { self.new ≡ set_regs q hdp cp self.old }
     {

@@ -17,7 +17,7 @@ use words::put_at;
 
 impl Controller {
     // A frame of n bytes comes, on channel 0.
-    pub fn take_frame(&mut self, n: u32) -> Result<(), Refusal>
+    pub(crate) fn take_frame(&mut self, n: u32) -> Result<(), Refusal>
         ensures { framed (fault result) self.new ≡ frame_of n self.old }
     {
         if self.undefined {
@@ -41,7 +41,7 @@ impl Controller {
     }
 
     // A write that no guard has judged. Memory of another size than 8,192 bytes is answered 1.
-    pub fn write(&mut self, m: &mut [u8], a: u32, v: u32) -> Result<(), Refusal>
+    pub(crate) fn write(&mut self, m: &mut [u8], a: u32, v: u32) -> Result<(), Refusal>
         ensures { answer (fault result) self.new m.new ≡ unguarded_write a v self.old m.old }
     {
         let Some(m) = m.as_mut_array() else {

@@ -11,6 +11,7 @@ use mathlib.Core.Logic.{◌≢◌}
 use lib.Dec.{eqb}
 use borrow.Author.Tests.{eq-eqb, ne_eqb}
 use Rattle.layout.specs.Choice.{pick}
+use Rattle.layout.specs.Refusals.{fault}
 use Rattle.registers.specs.Table.{loaded}
 use Rattle.guard.specs.declared.Answer.{Answer}
 use Rattle.guard.specs.declared.Answer.TheVariants.{Refused}
@@ -41,7 +42,7 @@ module _ (a v : ℕ) (c : Controller) (x : Answer) (m : List ℕ) (n : ℕ) (i :
   unfolding reached_by
   carry-kept h r e = rw (← i, ne_eqb n 0 h) (ap (λ (y : After). (y, m)) e)
 
-  pub carry-met : n ≡ 0 → (s : Stepped) (m' : List ℕ) → outcome s m' ≡ unguarded_write a v c m → (r : After) → r ≡ met s.ctl s.number x
+  pub carry-met : n ≡ 0 → (s : Stepped) (m' : List ℕ) → outcome s m' ≡ unguarded_write a v c m → (r : After) → r ≡ met s.ctl (fault s.answer) x
       → (r, m') ≡ reached_by a v c x m
   unfolding reached_by
   carry-met h s m' o r e = rw (← i, eq-eqb n 0 h, ← o) (ap (λ (y : After). (y, m')) e)
@@ -114,13 +115,13 @@ module _ (c : Controller) (m k t u l t0 : List ℕ) (e0 : t0 ≡ loaded c.state 
 
 -- ---- the controller alone
 
-pub frame-moves : (n : ℕ) (c : Controller) (r : Arrived) (a : Answer) → arrival r ≡ frame_of n c → a ≡ answer_of r.number
-    → (m : List ℕ) → Moves (apply_frame n) c m (record { ctl = r.ctl; answer = a; burst = Quiet }) m
+pub frame-moves : (n : ℕ) (c : Controller) (r : Arrived) (a : Answer) (x : After) → arrival r ≡ frame_of n c
+    → a ≡ answer_of (fault r.answer) → x ≡ left_alone r.ctl a → (m : List ℕ) → Moves (apply_frame n) c m x m
 unfolding apply_frame
-frame-moves n c r a e i m k t u l = record {
-  answer = i ∙ ap (λ (z : Framed). answer_of z.number) e;
-  burst = refl;
-  ctl = ap (λ (z : Framed). z.ctl) e;
+frame-moves n c r a x e i h m k t u l = record {
+  answer = ap (λ (y : After). y.answer) h ∙ i ∙ ap (λ (z : Framed). answer_of z.number) e;
+  burst = ap (λ (y : After). y.burst) h;
+  ctl = ap (λ (y : After). y.ctl) h ∙ ap (λ (z : Framed). z.ctl) e;
   mem = refl;
   kinds = refl;
   state = refl;
@@ -129,7 +130,7 @@ frame-moves n c r a e i m k t u l = record {
 }
 
 pub step-moves : (e : Engine) (c : Controller) (m : List ℕ) (r : Stepped) (a : Answer) (m1 : List ℕ) → outcome r m1 ≡ step_of e c m
-    → a ≡ answer_of r.number → Moves (apply_step e) c m (record { ctl = r.ctl; answer = a; burst = r.burst }) m1
+    → a ≡ answer_of (fault r.answer) → Moves (apply_step e) c m (record { ctl = r.ctl; answer = a; burst = r.burst }) m1
 unfolding apply_step
 step-moves e c m r a m1 q i k t u l = record {
   answer = i ∙ ap (λ (z : StepDone). answer_of z.number) q;

@@ -3,4 +3,4 @@ use Rattle.machine.proofs.LeavesLaws.{frame-moves}
 use Rattle.machine.proofs.apply_frame.Goals as goal
 
 pub returns : goal.returns
-returns c = frame-moves _ _ _ _ c.hosted_frame-x.ensures c.answer_to-answer.ensures
+returns c = frame-moves _ _ _ _ _ c.hosted_frame-answer.ensures c.plain.ensures c.keep.ensures

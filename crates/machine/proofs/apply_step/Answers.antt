@@ -3,4 +3,4 @@ use Rattle.machine.proofs.LeavesLaws.{step-moves}
 use Rattle.machine.proofs.apply_step.Goals as goal
 
 pub returns : goal.returns
-returns c = step-moves _ _ _ _ _ _ c.hosted-x.ensures c.answer_to-answer.ensures
+returns c = step-moves _ _ _ _ _ _ c.hosted-burst.ensures c.plain-answer.ensures
