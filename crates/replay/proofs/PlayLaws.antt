@@ -9,6 +9,7 @@ use mathlib.Core.List.{List, [], ◌∷◌, ◌++◌}
 use native.Mathlib.Nat.{add-zero}
 use native.Mathlib.Omega.{arith}
 use lib.ListN.{length}
+use Rattle.std.proofs.Common.{append_assoc, append-nil}
 use Rattle.guard.specs.Answers.{number_of}
 use Rattle.phases.specs.declared.Burst.{Burst}
 use Rattle.phases.specs.declared.Engine.{Engine}
@@ -26,21 +27,13 @@ use Rattle.replay.specs.Replay.{steps_of, record_of}
 use Rattle.replay.specs.Plays.{Plays, Goes}
 
 -- ---- lines
-append-none : (l : List ℕ) → l ++ [] ≡ l
-append-none [] = refl
-append-none (x ∷ l) = ap (λ (k : List ℕ). x ∷ k) (append-none l)
-
-append-more : (a b c : List ℕ) → (a ++ b) ++ c ≡ a ++ (b ++ c)
-append-more [] b c = refl
-append-more (x ∷ a) b c = ap (λ (k : List ℕ). x ∷ k) (append-more a b c)
-
 lines-append : (es fs : List Event) → lines_of (es ++ fs) ≡ lines_of es ++ lines_of fs
 lines-append [] fs = refl
 lines-append (e ∷ es) fs =
-    ap (λ (l : List ℕ). line_of e ++ l) (lines-append es fs) ∙ sym (append-more (line_of e) (lines_of es) (lines_of fs))
+    ap (λ (l : List ℕ). line_of e ++ l) (lines-append es fs) ∙ sym (append_assoc (line_of e) (lines_of es) (lines_of fs))
 
 one_line : (e : Event) {x y : List ℕ} {i j : ℕ} → Prints x i (line_of e) y j → Prints x i (lines_of (e ∷ [])) y j
-one_line e {x} {y} {i} {j} p = subst (λ (l : List ℕ). Prints x i l y j) (sym (append-none (line_of e))) p
+one_line e {x} {y} {i} {j} p = subst (λ (l : List ℕ). Prints x i l y j) (sym (append-nil (line_of e))) p
 
 pub line-end : {x y : List ℕ} {i j : ℕ} {l : List ℕ} → Prints x i l y j → length l ≤ line_max → j ≤ i + line_max
 line-end p h = omega (arith, p.ends, h)
