@@ -2,3 +2,4 @@ pub mod RecordLaws
 pub mod SizeLaws
 pub mod LineLaws
 pub mod PrintLaws
+pub mod DigitLaws

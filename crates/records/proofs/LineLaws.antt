@@ -1,6 +1,6 @@
 -- The digits of a number, and how long a line can be. Assumes nothing.
 --     decimal-same                     the digits are those that std's `{}` writes
---     hex-before                       in hex, the last digit stored, and the others in front of it
+--     hex_for-more, hex-before         in hex, one digit more; the last digit stored, and the others in front of it
 --     length-hex_for, length-hex8       in hex the length is known
 --     length-decimal                   in decimal it is 1 to 20
 --     length-line_of, length-sent_line, length-bad_line   a line has at most line_max bytes
@@ -62,7 +62,7 @@ pub length-hex8 : (a : ℕ) → length (hex8 a) ≡ 8
 unfolding hex8
 length-hex8 a = length-hex_for 8 a
 
-hex_for-more : (k a : ℕ) → 0 < k → hex_for k a ≡ hex_for (k - 1) (a / 16) ++ (hex_digit (a % 16) ∷ [])
+pub hex_for-more : (k a : ℕ) → 0 < k → hex_for k a ≡ hex_for (k - 1) (a / 16) ++ (hex_digit (a % 16) ∷ [])
 hex_for-more zero a h = absurd (omega arith)
 hex_for-more (suc k) a h =
     let e : suc k - 1 ≡ k = omega arith in ap (λ (j : ℕ). hex_for j (a / 16) ++ (hex_digit (a % 16) ∷ [])) (sym e)
