@@ -500,8 +500,8 @@ pub fn guest_write_sound(
     let Some(m) = m.as_mut_array() else {
         unreachable!()
     };
-    if let Some(k) = stored_word(a, m, t, used) {
-        put_at(m, k, v);
+    if let Some(free) = stored_word(a, m, t, used) {
+        put_at(m, free, v);
         return Answer::Accepted(Effect::Plain);
     }
     if let Some(q) = quiet_cp(a, m, t) {

@@ -45,7 +45,9 @@ fn is_touching(m: &Memory, i: usize, n: u16, b: u32) -> bool
 fn in_reception(m: &Memory, lens: &[u16], b: u32) -> bool
     ensures { result ≡ in_reception (word m.now) lens.now b }
 {
-    lens.iter().enumerate().any(|(i, n)| is_touching(m, i, *n, b))
+    lens.iter()
+        .enumerate()
+        .any(|(i, n)| is_touching(m, i, *n, b))
 }
 
 // 18 to 21 for the change of block b to kind k.

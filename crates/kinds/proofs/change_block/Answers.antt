@@ -11,7 +11,7 @@ returns-in_err-kind_fault c =
     rw (p.1, p.2) (kind-refused _ _ _ _ _ _ c.in_err-kind_fault.ensures)
 
 pub overflow_cast-kinds : goal.overflow_cast-kinds
-overflow_cast-kinds c = record { fits = omega (arith, leb-true c.args.k 4 (kind-tests _ _ _ _ _ (sym c.in_ok-kind_fault.ensures)).2); }
+overflow_cast-kinds c = record { fits = omega (arith, leb-true c.args.k 4 (kind-tests _ _ _ _ _ (sym c.in_ok-kind_fault.ensures)).2) }
 
 pub bounds-kinds-b : goal.bounds-kinds-b
 bounds-kinds-b c = ltb-true _ _ (kind-tests _ _ _ _ _ (sym c.in_ok-kind_fault.ensures)).0

@@ -15,5 +15,5 @@ returns c =
     let w = word c.args.m.now in
     let b = c.args.b in
     any_from_yields_List (λ (p : ℕ × ℕ). touches b (w (p.0 + 1)) p.1) _ _ _ c.any.ensures.ran
-        (YieldsList-from_enumerate (YieldsList-from_slice c.args.lens.now (cc)) (cc)) (λ x r q k. search rules)
+    (YieldsList-from_enumerate (YieldsList-from_slice c.args.lens.now (cc)) (cc)) (λ x r q k. search rules)
     ∙ received-any w b 0 c.args.lens.now
