@@ -38,10 +38,11 @@ def ticked(cell):
 
 
 class Function:
-    """A public function: its name as documents have it, whether it is exported to C, and its contract."""
+    """A public function: its name as documents have it, whether it is exported to C or a method, and its contract."""
 
     def __init__(self, crate, prefix, found):
         self.crate = crate
+        self.method = prefix[:1].isupper()
         self.name = found.group(2)
         self.full = f"{crate}::{prefix}{self.name}"
         self.exported = bool(found.group(1))
@@ -52,7 +53,7 @@ class Function:
 
 
 def functions():
-    """Every public function of a library: those of its root, and of the modules that it opens."""
+    """Every public function of a library: those of its root, and of the modules that it opens, with the methods of their types."""
     for root in sorted(TOP.glob("crates/*/src/lib.rt")):
         text = root.read_text(encoding="utf-8")
         files = [(root, "")] + [(root.parent / (n + ".rt"), n + "::") for n in re.findall(r"^pub mod (\w+);", text, re.M)]
@@ -60,6 +61,9 @@ def functions():
             source = path.read_text(encoding="utf-8")
             for found in re.finditer(r"^pub (extern \"C\" )?fn (\w+).*?(?=^\{\n(.*?)^\})", source, re.M | re.S):
                 yield Function(root.parts[-3], prefix, found)
+            for owner, block in re.findall(r"^impl (\w+) \{$(.*?)^\}$", source, re.M | re.S):
+                for found in re.finditer(r"^    pub ()fn (\w+).*?(?=^    \{\n(.*?)^    \})", block, re.M | re.S):
+                    yield Function(root.parts[-3], owner + "::", found)
 
 
 def theorems(text, wrong):
@@ -168,8 +172,13 @@ def used(wrong):
     for f in functions():
         if f.exported or f.full in BEGUN:
             continue
-        call = re.compile(r"\b" + f.name + r"\(")
-        if not any((f.crate, f.name) in names and call.search(code) for crate, files in calls.items() if crate != f.crate for names, code in files):
+        call = re.compile((r"\." if f.method else r"\b") + f.name + r"\(")
+
+        def calls_it(names, code):
+            reached = f.crate in {crate for crate, _ in names} if f.method else (f.crate, f.name) in names
+            return reached and call.search(code)
+
+        if not any(calls_it(*file) for crate, files in calls.items() if crate != f.crate for file in files):
             wrong.append(f"{f.full} is public, and no other crate uses it")
 
 

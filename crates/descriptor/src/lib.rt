@@ -68,7 +68,7 @@ pub fn has_flag(x3: u32, f: Flag) -> bool
     has_bit(x3, f as u32)
 }
 
-// The packet length in word 3.
+// The packet length in word 3, which an engine keeps without the rest of the descriptor.
 #[tactic(auto, unfolding(crate::specs::Fields::packet_length))]
 pub fn packet_length(x3: u32) -> u32
     ensures { result ≡ packet_length x3 }
@@ -76,7 +76,7 @@ pub fn packet_length(x3: u32) -> u32
     x3 % SHORT_END
 }
 
-// The length in word 2.
+// The length in word 2, which the book reads alone.
 #[tactic(auto, unfolding(crate::specs::Fields::length_of))]
 pub fn length_of(side: Side, x2: u32) -> u32
     ensures { (result ≡ length_of side x2) × (result < long_end) }

@@ -17,6 +17,7 @@ use words::{read_word, write_word};
 const OVERRUN: u32 = 22;
 
 // A word with n as its packet length, or as a receive buffer's length.
+// The bound of a length stays a clause, here and below, and no type: each caller has just tested the number.
 #[tactic(auto, unfolding(crate::specs::Marks::put_length))]
 fn put_length(n: u32, w: u32) -> u32
     requires { n < short_end }
@@ -56,7 +57,7 @@ fn mark_part<F: Fn(u32) -> u32>(part: &mut [u8], i: usize, mark: F)
     requires { (length part.old ≡ 16) × (i < 4) × F.IsAlwaysCallable mark }
     ensures { (w : ℕ) × F.post mark (word_at part.old (4 * i)) w × (part.new ≡ put_word part.old (4 * i) w) }
 {
-    let w = read_word(&part[..], 4 * i);
+    let w = read_word(part, 4 * i);
     write_word(part, 4 * i, mark(w));
 }
 

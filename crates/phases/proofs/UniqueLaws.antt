@@ -1,13 +1,13 @@
 -- Any two outcomes that one promise allows are the same: a theorem for each public function. Assumes nothing.
 --     step-transmit-unique, step-receive-unique               what is handed back, and the memory that is left
 --     is-quiet-tx-unique, is-quiet-rx-unique, is-waiting-unique     the answer
+use Rattle.std.proofs.Common.{Option}
 use Prim.Native.Nat.{ℕ}
 use mathlib.Core.Path.{◌≡◌, ap, ◌∙◌, sym}
 use mathlib.Core.Bool.{Bool}
 use mathlib.Core.List.{List}
 use Rattle.phases.specs.declared.Sending.{Sending}
 use Rattle.phases.specs.declared.Receiving.{Receiving}
-use Rattle.std.proofs.Common.{Option}
 use Rattle.phases.specs.declared.Step.{Step}
 use Rattle.phases.specs.Transmit.{send_step}
 use Rattle.phases.specs.Receive.{take_step}

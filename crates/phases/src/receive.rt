@@ -67,22 +67,23 @@ impl Storing {
         let room = self.room - n;
         let here = self.here.saturating_add(n);
         if n < self.room && n < self.left {
-            return Receiving::Moving(Storing {
+            Receiving::Moving(Storing {
                 first: self.first,
                 stored,
                 left,
                 at: self.at + n,
                 room,
                 here,
-            });
+            })
+        } else {
+            Receiving::Ended(Filled {
+                first: self.first,
+                stored,
+                left,
+                room,
+                here,
+            })
         }
-        Receiving::Ended(Filled {
-            first: self.first,
-            stored,
-            left,
-            room,
-            here,
-        })
     }
 
     // (2) One store burst. The one that leaves no room or nothing to store moves on to 3.

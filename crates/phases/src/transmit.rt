@@ -80,19 +80,20 @@ impl Reading {
         ensures { result ≡ advanced self n }
     {
         if n < self.left {
-            return Sending::Moving(Reading {
+            Sending::Moving(Reading {
                 at: self.at + n,
                 left: self.left - n,
                 ..self
-            });
+            })
+        } else {
+            Sending::Ended(Finished {
+                sop: self.sop,
+                word3: self.word3,
+                sum: self.sum,
+                next: self.next,
+                eop: self.eop,
+            })
         }
-        Sending::Ended(Finished {
-            sop: self.sop,
-            word3: self.word3,
-            sum: self.sum,
-            next: self.next,
-            eop: self.eop,
-        })
     }
 
     // (2) One read burst. The one that leaves nothing moves on to 3.

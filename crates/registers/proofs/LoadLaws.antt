@@ -17,7 +17,8 @@ piece t p = put_mid (hdp_at 0) (marks_at - hdp_at 0) t p
 abbrev pub copied : List ℕ → List ℕ → List ℕ → List ℕ
 copied c t p = set (piece t p) bit_at (get_or c bit_at 0)
 
-module _ (c t p : List ℕ) (l : length t ≡ state_words) (m : length c ≡ state_words) (e : p ≡ mid_of (hdp_at 0) (marks_at - hdp_at 0) c) where
+module _ (c t p : List ℕ) (l : length t ≡ state_words) (m : length c ≡ state_words)
+    (e : p ≡ mid_of (hdp_at 0) (marks_at - hdp_at 0) c) where
   piece-length : length (piece t p) ≡ length t
   piece-length = rw e (search (rules, places))
 

@@ -5,9 +5,8 @@
 --     written-teardown .. written-rest   the table after such a write
 --     head_written-zero, head_written-set, ack_written-zero, -same, -other   the cases of a write to HDP and to CP
 --     tear_queue-named, tear_queue-lt the queue that a teardown names
---     queue_of-side                   a teardown register's number past the first is the first queue of its side
 --     head_fault-zero, ack_fault-zero, head_fault-none, teardown_fault-none, reset_fault-none, zero_fault-none   what no fault tells
-use Prim.Native.Nat.{ℕ, zero, suc, ◌+◌, ◌*◌, ◌-◌, ◌≤◌, ◌<◌}
+use Prim.Native.Nat.{ℕ, ◌+◌, ◌*◌, ◌-◌, ◌≤◌, ◌<◌}
 use mathlib.Core.Path.{◌≡◌, refl, ap, ◌∙◌}
 use mathlib.Core.Logic.{◌≢◌}
 use mathlib.Core.Bool.{Bool, true, false}
@@ -17,7 +16,7 @@ use native.Mathlib.Omega.{arith}
 use lib.Dec.{eqb, ltb, leb}
 use borrow.Author.Tests.{eq-eqb, ne_eqb, lt-ltb, le-ltb, le-leb, lt-leb, eqb-true, eqb-false, ltb-true}
 use Rattle.layout.specs.Choice.{pick, both}
-use Rattle.layout.specs.Layout.{channels, queues, side_of, queue_of}
+use Rattle.layout.specs.Layout.{channels, queues}
 use Rattle.layout.specs.Class.{hdp_class, cp_class, teardown_class, reset_class, control_class, offset_class, passed_class, unoffered_class}
 use Rattle.layout.specs.Class.{unguarded_class}
 use Rattle.layout.proofs.ChoiceLaws.{pick_same, want, shun}
@@ -222,13 +221,6 @@ tear_queue-named side v h = simp (lt-ltb v channels h)
 pub tear_queue-none : (side v : ℕ) → channels ≤ v → tear_queue side v ≡ side
 unfolding tear_queue
 tear_queue-none side v h = simp (le-ltb v channels h)
-
--- a teardown register's number past the first is its side's first queue
-pub queue_of-side : (k : ℕ) → k < 2 → queue_of (side_of k) 0 ≡ k
-unfolding side_of
-queue_of-side zero h = refl
-queue_of-side (suc zero) h = refl
-queue_of-side (suc (suc k)) h = absurd (omega arith)
 
 pub tear_queue-lt : (side v : ℕ) → side < 2 → tear_queue side v < queues
 unfolding tear_queue

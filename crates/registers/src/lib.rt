@@ -33,6 +33,7 @@ pub const RESET_AT: usize = 3 * QUEUES + 2;
 
 pub const BIT_AT: usize = 3 * QUEUES + 3;
 
+// A table of words, and a queue by its number: so callers in C lend and read it.
 pub type State = [u32; STATE];
 
 // Every mark there is.
@@ -41,7 +42,7 @@ const ALL_MARKS: u32 = ((1u64 << MARKS) - 1) as u32;
 // One past the last mask of teardowns.
 const TEARINGS_END: u32 = 1 << QUEUES;
 
-// The last class of each range, by the range's first and that of the next.
+// The last class of each range, by the range's first and that of the next; the guard's judges go by them too.
 pub const HDP_LAST: u8 = HDP + QUEUES as u8 - 1;
 
 pub const CP_LAST: u8 = CP + QUEUES as u8 - 1;

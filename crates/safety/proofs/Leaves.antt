@@ -7,6 +7,7 @@
 --     transmit-own, receive-own, tear-own   the steps
 --     Other e j               queue j is not the one of engine e
 --     step-leaves             the step of any engine
+use Rattle.std.proofs.Common.{Option, Some, None}
 use Prim.Native.Nat.{ℕ, ◌<◌}
 use mathlib.Core.Path.{◌≡◌, refl, ap, ◌∙◌, sym}
 use mathlib.Core.Bool.{Bool, true}
@@ -33,8 +34,7 @@ use Rattle.phases.specs.declared.Sending.{Sending}
 use Rattle.phases.specs.declared.Sending.TheVariants as S
 use Rattle.phases.specs.declared.Receiving.{Receiving}
 use Rattle.phases.specs.declared.Receiving.TheVariants as R
-use Rattle.phases.specs.declared.Sends.{Sends}
-use Rattle.phases.specs.declared.Takes.{Takes}
+use Rattle.phases.specs.declared.Step.{Step}
 use Rattle.phases.specs.Transmit.{send_step, mark_eoq, clear_own}
 use Rattle.phases.specs.Receive.{take_step, mark_last, mark_first}
 use Rattle.controller.specs.Controller.{StepDone, answer, tx_of, rx_of, send_moved, take_moved, held_back, quiet_engine, transmit_step}
@@ -79,7 +79,7 @@ module _ (s : Machine) (i : Inv s) (q : ℕ) where
       let t = spot-is-top (words_of s) L z in
       named first [] t.f t.fs t.is (spot-top (words_of s) L z t (left-linked s i q)).0 o
 
-  abbrev Sent : Sends × List ℕ → Type 0
+  abbrev Sent : Option (Step Sending) × List ℕ → Type 0
   Sent x = Own s i q x.1
 
   send-own : (K : List ℕ) (h n cp : ℕ) (wait : Bool) (ph : Sending) → TxInv K (words_of s) L h n ph → Sent (send_step wait s.mem ph h cp)
@@ -97,7 +97,7 @@ module _ (s : Machine) (i : Inv s) (q : ℕ) where
       by-pick Sent (good_ptr c.sop) _ _ (λ g. at_first t.spot (marked-only owner_mark (word_of c.sop) s.mem)) (λ g. same)
   send-own K h n cp wait (S.Done l) t = same
 
-  abbrev Took : Takes × List ℕ → Type 0
+  abbrev Took : Option (Step Receiving) × List ℕ → Type 0
   Took x = Own s i q x.1
 
   take_own : (lens : List ℕ) (h n cp : ℕ) (ph : Receiving) → RxInv lens (words_of s) L h n ph → Took (take_step s.mem ph h cp)
@@ -119,13 +119,13 @@ module _ (s : Machine) (i : Inv s) (q : ℕ) where
   take_own lens h n cp (R.Done l) t = same
 
   -- a phase that is unfit leaves the memory
-  sent-own : (ch : ℕ) (x : Sends × List ℕ) → Sent x → Own s i q (send_moved ch x s.ctl s.mem).mem
-  sent-own ch (Sends.Unfit, m) o = same
-  sent-own ch (Sends.Went r, m) o = o
+  sent-own : (ch : ℕ) (x : Option (Step Sending) × List ℕ) → Sent x → Own s i q (send_moved ch x s.ctl s.mem).mem
+  sent-own ch (None, m) o = same
+  sent-own ch (Some r, m) o = o
 
-  took-own : (ch : ℕ) (x : Takes × List ℕ) → Took x → Own s i q (take_moved ch x s.ctl s.mem).mem
-  took-own ch (Takes.Unfit, m) o = same
-  took-own ch (Takes.Went r, m) o = o
+  took-own : (ch : ℕ) (x : Option (Step Receiving) × List ℕ) → Took x → Own s i q (take_moved ch x s.ctl s.mem).mem
+  took-own ch (None, m) o = same
+  took-own ch (Some r, m) o = o
 
 -- ---- the steps of an engine
 

@@ -5,6 +5,7 @@
 --     takes, quietly           a step that goes on
 --     fetch-fine, .., done-fine   the step of each phase
 --     receive-fine             every step
+use Rattle.std.proofs.Common.{Option, Some}
 use Prim.Native.Nat.{ℕ, ◌+◌, ◌*◌, ◌-◌, ◌≤◌, ◌<◌, min}
 use mathlib.Core.Path.{◌≡◌, refl, ap, ◌∙◌}
 use mathlib.Core.Bool.{Bool, true, false, not}
@@ -43,10 +44,9 @@ use Rattle.phases.specs.declared.Filled.{Filled}
 use Rattle.phases.specs.declared.Stored.{Stored}
 use Rattle.phases.specs.declared.Receiving.{Receiving}
 use Rattle.phases.specs.declared.Receiving.TheVariants.{Idle, Wait, Fetch, Moving, Ended, Last, First, Done}
-use Rattle.phases.specs.declared.Took.{Took}
-use Rattle.phases.specs.declared.Takes.{Takes}
-use Rattle.phases.specs.declared.Takes.TheVariants.{Went}
-use Rattle.phases.specs.Receive.{to_phase, too_long, fetch, burst_size, advanced, store_burst, close, mark_last, mark_first, finish}
+use Rattle.phases.specs.declared.Step.{Step}
+use Rattle.phases.specs.Steps.{to_phase}
+use Rattle.phases.specs.Receive.{too_long, fetch, burst_size, advanced, store_burst, close, mark_last, mark_first, finish}
 use Rattle.phases.specs.Receive.{take_step}
 use Rattle.controller.specs.Controller.{rx_of, take_moved, added, receive_step}
 use Rattle.machine.specs.Machine.{Machine}
@@ -82,7 +82,7 @@ unfolding first_byte
 receive-first x1 x2 x3 = refl
 
 burst-is : (s : Storing) (h cp : ℕ) → 1 ≤ s.left → 1 ≤ s.room → s.stored + s.left ≤ length_max → s.at + s.room ≤ address_end
-    → store_burst s h cp ≡ Went
+    → store_burst s h cp ≡ Some
     (record { state = advanced s (burst_size s); hdp = h; cp = cp; burst = Store s.at (burst_size s); octets = 0 })
 unfolding store_burst
 burst-is s h cp a b c e =
@@ -118,14 +118,14 @@ module _ (s : Machine) (i : Inv s) (ch : ℕ) (l : ch < channels) where
   abbrev Stands : ℕ → Receiving → Type 0
   Stands h ph = RxInv s.lens w L h here.stage ph
 
-  abbrev After : Takes → List ℕ → Type 0
+  abbrev After : Option (Step Receiving) → List ℕ → Type 0
   After x m = Fine s (take_moved ch (x, m) s.ctl s.mem)
 
   -- ---- a step that goes on
 
-  takes : (r : Took) (m : List ℕ)
+  takes : (r : Step Receiving) (m : List ℕ)
       → Fine s (went q (taking r.state) r.hdp r.cp s.ctl.sent (added s.ctl.received r.octets) r.burst m s.ctl)
-      → After (Went r) m
+      → After (Some r) m
   takes r m f = rw (channel-queue Receive ch) at f
 
   -- no burst, and memory as it was

@@ -5,6 +5,7 @@
 --     sends, quietly           a step that goes on
 --     new-fine, .., done-fine  the step of each phase
 --     transmit-fine            every step
+use Rattle.std.proofs.Common.{Option, Some, None}
 use Prim.Native.Nat.{ℕ, ◌+◌, ◌*◌, ◌-◌, ◌≤◌, ◌<◌, ◌^◌, min}
 use mathlib.Core.Path.{◌≡◌, refl, ap, ◌∙◌, sym}
 use mathlib.Core.Bool.{Bool, true, false}
@@ -38,10 +39,9 @@ use Rattle.phases.specs.declared.Finished.{Finished}
 use Rattle.phases.specs.declared.Closing.{Closing}
 use Rattle.phases.specs.declared.Sending.{Sending}
 use Rattle.phases.specs.declared.Sending.TheVariants.{Idle, New, Within, Moving, Ended, Marking, Owning, Done}
-use Rattle.phases.specs.declared.Sent.{Sent}
-use Rattle.phases.specs.declared.Sends.{Sends}
-use Rattle.phases.specs.declared.Sends.TheVariants.{Went, Unfit}
-use Rattle.phases.specs.Transmit.{to_phase, latched, fetch, advanced, read_burst, close, mark_eoq, clear_own, finish, send_step}
+use Rattle.phases.specs.declared.Step.{Step}
+use Rattle.phases.specs.Steps.{to_phase}
+use Rattle.phases.specs.Transmit.{latched, fetch, advanced, read_burst, close, mark_eoq, clear_own, finish, send_step}
 use Rattle.controller.specs.Controller.{tx_of, send_moved, added, held_back, transmit_step}
 use Rattle.machine.specs.Machine.{Machine}
 use Rattle.safety.proofs.Inv.{Sendable, Ready, Spot, Latched, Through, place_after, Fetched, TxInv, idle_tx, sending, Post, post_of}
@@ -72,7 +72,7 @@ own-length pl x1 x2 x3 s e = length-fits Transmit x1 x2 x3 (rw s at (own_fault-p
 
 burst-is : (r : Reading) (h cp : ℕ) → 1 ≤ r.left → r.at + r.left ≤ address_end
     → read_burst r h cp
-    ≡ Went (record { state = advanced r (min 64 r.left); hdp = h; cp = cp; burst = Read r.at (min 64 r.left); octets = 0 })
+    ≡ Some (record { state = advanced r (min 64 r.left); hdp = h; cp = cp; burst = Read r.at (min 64 r.left); octets = 0 })
 unfolding read_burst
 burst-is r h cp a b = simp (ne_eqb r.left 0 (λ z. omega (arith, z, a)), le-ltb address_end (r.at + r.left) b)
 
@@ -103,14 +103,14 @@ module _ (s : Machine) (i : Inv s) (ch : ℕ) (l : ch < channels) where
   abbrev Stands : ℕ → Sending → Type 0
   Stands h ph = TxInv s.kinds w L h here.stage ph
 
-  abbrev After : Sends → List ℕ → Type 0
+  abbrev After : Option (Step Sending) → List ℕ → Type 0
   After x m = Fine s (send_moved ch (x, m) s.ctl s.mem)
 
   -- ---- a step that goes on
 
-  sends : (r : Sent) (m : List ℕ)
+  sends : (r : Step Sending) (m : List ℕ)
       → Fine s (went q (sending r.state) r.hdp r.cp (added s.ctl.sent r.octets) s.ctl.received r.burst m s.ctl)
-      → After (Went r) m
+      → After (Some r) m
   sends r m f = rw (channel-queue Transmit ch) at f
 
   -- no burst, and memory as it was
@@ -228,7 +228,7 @@ module _ (s : Machine) (i : Inv s) (ch : ℕ) (l : ch < channels) where
         within = Within (record { sop = e.sop; word3 = e.word3; sum = e.sum })
 
         at : (b : Bool) → Fetched s.kinds w L here.hdp here.stage e.sop e.word3 e.sum e.next b
-            → After (pick b (pick (good_ptr here.hdp) (to_phase (marking (w (word_of here.hdp))) here.hdp here.cp) Unfit)
+            → After (pick b (pick (good_ptr here.hdp) (to_phase (marking (w (word_of here.hdp))) here.hdp here.cp) None)
             (to_phase within e.next here.cp)) s.mem
         at true f =
             let z = f.spot in
@@ -277,7 +277,7 @@ module _ (s : Machine) (i : Inv s) (ch : ℕ) (l : ch < channels) where
             → Fine s (send_moved ch
             (pick (eqb c.next 0)
             (pick (good_ptr here.hdp) (to_phase (Owning c) here.hdp here.cp, marked eoq_mark (word_of here.hdp) s.mem)
-            (Unfit, s.mem)) (to_phase (Owning c) here.hdp here.cp, s.mem)) s.ctl s.mem)
+            (None, s.mem)) (to_phase (Owning c) here.hdp here.cp, s.mem)) s.ctl s.mem)
         at (inl n) =
             rw (eq-eqb c.next 0 n, pointer-good z.here z.small, pointer_word z.here)
             (sends _ (marked eoq_mark z.d s.mem)

@@ -12,6 +12,6 @@ pub returns-then-has_bit : goal.returns-then-has_bit
 unfolding clear_bit
 returns-then-has_bit c = simp (sym c.has_bit.ensures ∙ c.if-has_bit.true, c.weight.ensures)
 
-pub returns : goal.returns
+pub returns-else-has_bit : goal.returns-else-has_bit
 unfolding clear_bit
-returns c = simp (sym c.has_bit.ensures ∙ c.if-has_bit.false)
+returns-else-has_bit c = simp (sym c.has_bit.ensures ∙ c.if-has_bit.false)

@@ -15,6 +15,6 @@ overflow_add-result c = let a = c.args in
     let h : a.w + 2 ^ a.k < 2 ^ 32 = simp b at (set_bit-lt 32 a.k a.w (search rules) (search rules)) in
     record { fits = rw c.weight.ensures h }
 
-pub returns : goal.returns
+pub returns-else-has_bit : goal.returns-else-has_bit
 unfolding set_bit
-returns c = simp (sym c.has_bit.ensures ∙ c.if-has_bit.false, c.weight.ensures)
+returns-else-has_bit c = simp (sym c.has_bit.ensures ∙ c.if-has_bit.false, c.weight.ensures)

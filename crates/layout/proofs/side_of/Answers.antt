@@ -7,6 +7,6 @@ pub returns-then-q-eq0 : goal.returns-then-q-eq0
 unfolding side_of
 returns-then-q-eq0 c = simp (eq-eqb _ _ c.if-q-eq0.true)
 
-pub returns : goal.returns
+pub returns-else-q-eq0 : goal.returns-else-q-eq0
 unfolding side_of
-returns c = simp (ne_eqb _ _ c.if-q-eq0.false)
+returns-else-q-eq0 c = simp (ne_eqb _ _ c.if-q-eq0.false)
