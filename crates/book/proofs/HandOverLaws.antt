@@ -1,9 +1,8 @@
 -- What the hand-over of a chain is, by cases, and that it ends. Assumes nothing.
---     hand_over_step-falls           each step leaves fewer free words
---     hand_over_step-bad, -met, -go  one step, as the calls tell it
+--     hand_over_step-falls     each step leaves fewer free words
 --     taken-eq                 the recursion equation: one step, and then the hand-over from where it goes
 --     taken-go                 a descriptor that is free is taken
---     taken-hop, hop-falls     recursion and measure, as a function tells them that handles one descriptor
+--     taken-on, -over, -falls  one step told: the hand-over goes on, with fewer free words, or it is over
 use Prim.Native.Nat.{ℕ, ◌+◌, ◌<◌}
 use mathlib.Core.Path.{◌≡◌, refl, ap, ◌∙◌, sym}
 use mathlib.Core.Bool.{Bool, true, false}
@@ -15,10 +14,7 @@ use Rattle.layout.specs.declared.Side.{Side}
 use Rattle.layout.proofs.RunLaws.{run-eq}
 use Rattle.words.specs.WordSet.{free_at, free_count}
 use Rattle.words.proofs.SetLaws.{free_count-falls}
-use Rattle.book.specs.declared.Hop.{Hop}
-use Rattle.book.specs.declared.Hop.TheVariants.{Go}
 use Rattle.book.specs.HandOver.{Uses, take_one, hand_over_step, taken_from}
-use Rattle.book.specs.Hops.{taken}
 
 -- ---- the measure
 
@@ -53,22 +49,6 @@ hand_over_step-falls w side s t e =
     e
 
 module _ (w : ℕ → ℕ) (side : Side) (u : Uses) (p : ℕ) where
-  -- ---- one step, as the calls tell it
-
-  pub hand_over_step-bad : good_ptr p ≡ false → stop u ≡ hand_over_step w side (u, p)
-  unfolding hand_over_step
-  hand_over_step-bad g = simp g
-
-  module _ {d : ℕ} (g : good_ptr p ≡ true) (at : d ≡ word_of p) where
-    pub hand_over_step-met : free_at u.0 d ≡ false → stop u ≡ hand_over_step w side (u, p)
-    unfolding hand_over_step
-    hand_over_step-met h = simp (g, ← at, h)
-
-    pub hand_over_step-go : {x2 next : ℕ} {v : Uses} → free_at u.0 d ≡ true → x2 ≡ w (d + 2) → v ≡ take_one side x2 u d → next ≡ w d
-        → go (v, next) ≡ hand_over_step w side (u, p)
-    unfolding hand_over_step
-    hand_over_step-go h q l n = simp (g, ← at, h, l, q, n)
-
   -- ---- the chain, by cases
 
   pub taken-eq : taken_from w side u p ≡ after (hand_over_step w side (u, p)) (λ t. taken_from w side t.0 t.1)
@@ -81,12 +61,12 @@ module _ (w : ℕ → ℕ) (side : Side) (u : Uses) (p : ℕ) where
     unfolding hand_over_step
     taken-go h = taken-eq ∙ simp (g, h)
 
-  module _ {r : Hop} (v : Uses) (told : taken r v ≡ hand_over_step w side (u, p)) where
-    pub taken-hop : (h : Hop) → r ≡ h → {o : Uses} → o ≡ after (taken h v) (λ s. taken_from w side s.0 s.1) → o ≡ taken_from w side u p
-    taken-hop h e q =
-        q
-        ∙ ap (λ (n : Next (Uses × ℕ) Uses). after n (λ s. taken_from w side s.0 s.1)) (ap (λ (x : Hop). taken x v) (sym e) ∙ told)
-        ∙ sym taken-eq
+  -- one step told: the hand-over goes on, or it is over
+  pub taken-on : {v : Uses} {next : ℕ} → go (v, next) ≡ hand_over_step w side (u, p) → taken_from w side v next ≡ taken_from w side u p
+  taken-on e = sym (taken-eq ∙ ap (λ (n : Next (Uses × ℕ) Uses). after n (λ s. taken_from w side s.0 s.1)) (sym e))
 
-    pub hop-falls : (next n : ℕ) → r ≡ Go next → free_count u.0 ≡ n → free_count v.0 < n
-    hop-falls next n e q = rw (← q) (hand_over_step-falls w side (u, p) (v, next) (sym told ∙ ap (λ (x : Hop). taken x v) e))
+  pub taken-over : {o : Uses} → stop o ≡ hand_over_step w side (u, p) → o ≡ taken_from w side u p
+  taken-over e = sym (taken-eq ∙ ap (λ (n : Next (Uses × ℕ) Uses). after n (λ s. taken_from w side s.0 s.1)) (sym e))
+
+  pub taken-falls : {v : Uses} {next : ℕ} → go (v, next) ≡ hand_over_step w side (u, p) → free_count v.0 < free_count u.0
+  taken-falls e = hand_over_step-falls w side (u, p) _ (sym e)

@@ -10,6 +10,7 @@ use lib.Dec.{eqb}
 use lib.ListN.{take-append-drop}
 use lib.Seq.{set-get_or}
 use borrow.Author.Tests.{not-true, eqb-true}
+use Rattle.std.specs.Prelude.{None}
 use Rattle.layout.specs.Choice.{pick}
 use Rattle.layout.specs.Layout.{good_ptr, word_of, queues}
 use Rattle.layout.proofs.ChoiceLaws.{clash, both_left, both_right, pick_same}
@@ -21,7 +22,6 @@ use Rattle.registers.specs.Table.{tearing_at, tearings_of, heads_of, cps_of, res
 use Rattle.registers.specs.Rules.{teardown_done}
 use Rattle.registers.proofs.TableLaws.{clear_bit-none, any_tearing-zero}
 use Rattle.book.specs.declared.Mode.TheVariants.{Head}
-use Rattle.book.specs.declared.Plan.TheVariants.{Keep}
 use Rattle.book.specs.HandOver.{Uses}
 use Rattle.book.specs.Release.{plan, released_from, released_all, settled, released_flags, with_heads, released_heads}
 use Rattle.book.specs.World.{World, release}
@@ -45,7 +45,7 @@ quiet_is w t e =
 
 -- ---- one queue
 
-held-keep : (x3 : ℕ) → td x3 ≡ false → owner x3 ≡ true → plan Head x3 ≡ Keep
+held-keep : (x3 : ℕ) → td x3 ≡ false → owner x3 ≡ true → plan Head x3 ≡ None
 unfolding plan
 held-keep x3 n y = simp (n, y)
 

@@ -1,10 +1,9 @@
 -- What the release is, by cases, and that it ends. Assumes nothing.
 --     release_step-falls          each step leaves fewer words in use
---     release_step-bad, -free, -keep, -drop   one step, as the calls tell it
 --     released-eq                the recursion equation: one step, and then the release from where it goes
 --     released-bad, -free        a pointer that names no descriptor in use ends the queue
 --     released-keep, -drop       the plan for the descriptor at p: it stays with all behind it, or it goes and the release goes on
---     released-turn, turn-falls  recursion and measure, as a function tells them that handles one descriptor
+--     released-on, -over, -falls   one step told: the release goes on, with fewer words in use, or it is over
 --     released_flags-over, -else  the flags, where a reset is over, and where none is
 --     released_book-is            the queues in the mode that the flags give, and then the flags
 --     release-parts              a world of what the release of its book leaves is the released world
@@ -13,6 +12,7 @@ use mathlib.Core.Path.{◌≡◌, refl, ap, ◌∙◌, sym}
 use mathlib.Core.Bool.{Bool, true, false}
 use mathlib.Core.List.{List}
 use native.Mathlib.Omega.{arith}
+use Rattle.std.specs.Prelude.{None, Some}
 use Rattle.layout.specs.Choice.{pick}
 use Rattle.layout.specs.Run.{Next, go, stop, after}
 use Rattle.layout.specs.Layout.{good_ptr, word_of}
@@ -22,15 +22,10 @@ use Rattle.words.specs.WordSet.{has, words_in_use}
 use Rattle.words.proofs.SetLaws.{has-true, words_in_use-falls}
 use Rattle.registers.specs.Table.{tearings_of, cps_of, set_tearings, unmarked}
 use Rattle.book.specs.declared.Mode.{Mode}
-use Rattle.book.specs.declared.Plan.{Plan}
-use Rattle.book.specs.declared.Plan.TheVariants.{Keep, Drop}
-use Rattle.book.specs.declared.ReleaseHop.{ReleaseHop}
-use Rattle.book.specs.declared.ReleaseHop.TheVariants.{Go}
 use Rattle.book.specs.HandOver.{Uses, drop_one}
-use Rattle.book.specs.Release.{RSt, ROut, plan, planned, release_step, released_from, reset_over, settled, released_flags, release_mode}
-use Rattle.book.specs.Release.{released_heads, released_book}
+use Rattle.book.specs.Release.{Plan, RSt, ROut, plan, planned, release_step, released_from, reset_over, settled, released_flags}
+use Rattle.book.specs.Release.{release_mode, released_heads, released_book}
 use Rattle.book.specs.World.{World, release}
-use Rattle.book.specs.Hops.{turned}
 
 -- ---- the measure
 
@@ -40,8 +35,8 @@ drop_one-falls u d h = words_in_use-falls u.0 d (has-true u.0 d h)
 
 falls-plan : (x : Plan) (u : Uses) (p next : ℕ) (t : RSt) → has u.0 (word_of p) ≡ true → planned x u p next ≡ go t
     → words_in_use t.0.0 < words_in_use u.0
-falls-plan Keep u p next t h e = let z : ◌≡◌ {A = ℕ} 0 1 = cc in absurd (omega arith)
-falls-plan (Drop mode) u p next t h e =
+falls-plan None u p next t h e = let z : ◌≡◌ {A = ℕ} 0 1 = cc in absurd (omega arith)
+falls-plan (Some mode) u p next t h e =
     let k : (drop_one u (word_of p), next, mode) ≡ t = cc in
     rw (← k) (drop_one-falls u (word_of p) h)
 
@@ -67,30 +62,6 @@ release_step-falls w s t e =
     refl
     e
 
--- ---- one step, as the calls tell it
-
-module _ (w : ℕ → ℕ) (u : Uses) (p : ℕ) (mode : Mode) where
-  pub release_step-bad : good_ptr p ≡ false → stop (p, u) ≡ release_step w (u, p, mode)
-  unfolding release_step
-  release_step-bad g = simp g
-
-  module _ {d : ℕ} (g : good_ptr p ≡ true) (at : d ≡ word_of p) where
-    pub release_step-free : has u.0 d ≡ false → stop (p, u) ≡ release_step w (u, p, mode)
-    unfolding release_step
-    release_step-free h = simp (g, ← at, h)
-
-    module _ {x3 : ℕ} {fate : Plan} (h : has u.0 d ≡ true) (q : x3 ≡ w (d + 3)) (f : fate ≡ plan mode x3) where
-      release_step-plan : (x : Plan) → fate ≡ x → planned x u p (w d) ≡ release_step w (u, p, mode)
-      unfolding release_step
-      release_step-plan x e = simp (g, ← at, h, ← q, ← f, e)
-
-      pub release_step-keep : fate ≡ Keep → stop (p, u) ≡ release_step w (u, p, mode)
-      release_step-keep e = release_step-plan Keep e
-
-      pub release_step-drop : {rest : Mode} {v : Uses} {next : ℕ} → fate ≡ Drop rest → v ≡ drop_one u d → next ≡ w d
-          → go (v, next, rest) ≡ release_step w (u, p, mode)
-      release_step-drop {rest} e l n = rw (l, n, at) (rw at at (release_step-plan (Drop rest) e))
-
 -- ---- one queue, by cases
 
 module _ (w : ℕ → ℕ) (u : Uses) (p : ℕ) (mode : Mode) where
@@ -107,27 +78,26 @@ module _ (w : ℕ → ℕ) (u : Uses) (p : ℕ) (mode : Mode) where
   released-free g h = released-eq ∙ simp (g, h)
 
   module _ (g : good_ptr p ≡ true) (h : has u.0 (word_of p) ≡ true) where
-    pub released-keep : plan mode (w (word_of p + 3)) ≡ Keep → released_from w u p mode ≡ (p, u)
+    pub released-keep : plan mode (w (word_of p + 3)) ≡ None → released_from w u p mode ≡ (p, u)
     unfolding release_step
     released-keep e = released-eq ∙ simp (g, h, e)
 
-    pub released-drop : (rest : Mode) → plan mode (w (word_of p + 3)) ≡ Drop rest
+    pub released-drop : (rest : Mode) → plan mode (w (word_of p + 3)) ≡ Some rest
         → released_from w u p mode ≡ released_from w (drop_one u (word_of p)) (w (word_of p)) rest
     unfolding release_step
     released-drop rest e = released-eq ∙ simp (g, h, e)
 
-  module _ {r : ReleaseHop} (v : Uses) (told : turned r p v ≡ release_step w (u, p, mode)) where
-    pub released-turn : (t : ReleaseHop) → r ≡ t → {o : ROut} → o ≡ after (turned t p v) (λ s. released_from w s.0 s.1 s.2)
-        → o ≡ released_from w u p mode
-    released-turn t e h =
-        h
-        ∙ ap (λ (n : Next RSt ROut). after n (λ s. released_from w s.0 s.1 s.2))
-        (ap (λ (x : ReleaseHop). turned x p v) (sym e) ∙ told)
-        ∙ sym released-eq
+  -- one step told: the release goes on, or it is over
+  pub released-on : {v : Uses} {next : ℕ} {rest : Mode} → go (v, next, rest) ≡ release_step w (u, p, mode)
+      → released_from w v next rest ≡ released_from w u p mode
+  released-on e = sym (released-eq ∙ ap (λ (n : Next RSt ROut). after n (λ s. released_from w s.0 s.1 s.2)) (sym e))
 
-    pub turn-falls : (next : ℕ) (rest : Mode) (n : ℕ) → r ≡ Go next rest → words_in_use u.0 ≡ n → words_in_use v.0 < n
-    turn-falls next rest n e q =
-        rw (← q) (release_step-falls w (u, p, mode) (v, next, rest) (sym told ∙ ap (λ (x : ReleaseHop). turned x p v) e))
+  pub released-over : {o : ROut} → stop o ≡ release_step w (u, p, mode) → o ≡ released_from w u p mode
+  released-over e = sym (released-eq ∙ ap (λ (n : Next RSt ROut). after n (λ s. released_from w s.0 s.1 s.2)) (sym e))
+
+  pub released-falls : {v : Uses} {next : ℕ} {rest : Mode} → go (v, next, rest) ≡ release_step w (u, p, mode)
+      → words_in_use v.0 < words_in_use u.0
+  released-falls e = release_step-falls w (u, p, mode) _ (sym e)
 
 -- ---- the flags
 

@@ -1,43 +1,41 @@
 -- What makes a book sound, by the walks that find it out, and that these end. Assumes nothing.
+--     good_not_zero                      a good pointer does not end a chain
 --     walk_step-falls, first_step-falls    each step leaves fewer free words
---     walk_step-bad, -met, -go, first_step-bad, -met, -go   one step, as the calls tell it
 --     walk-eq, firsts-eq                 the recursion equations: one step, and then the walk from where it goes
 --     walk_end, -bad, -met, -go          the chain walk by cases: at 0, at a pointer that is not good, at a word met before, else
 --     firsts-bad                         the same for the first words
---     walk-hop, -falls, firsts-hop, -falls   recursion and measure, as a function tells them that handles one descriptor
---     all_two                             a test at each entry of two lists
---     same_list-is, lengths_fit-is         both comparisons are such tests
---     all_two-length, -more, -whole       lists of different lengths fail; one entry more; all entries
+--     walk-on, -over, -falls, firsts-on, -over, -falls   one step told: the walk goes on, with fewer free words, or it is over
+--     same_list-is                        two lists are the same where the library's comparison says so
+--     fit_on, fit-next, lengths_fit-is      the lengths asked one after the other: one pair more, and all of them
 --     sound-flags, -walk, -words, -lengths   the four tests of soundness, in their order
-use Prim.Native.Nat.{ℕ, zero, suc, ◌+◌, ◌<◌, ◌≤◌}
+use Prim.Native.Nat.{ℕ, zero, suc, ◌<◌}
 use mathlib.Core.Path.{◌≡◌, refl, ap, ◌∙◌, sym}
 use mathlib.Core.Bool.{Bool, true, false}
-use mathlib.Core.List.{List, [], ◌∷◌}
+use mathlib.Core.List.{List, [], ◌∷◌, ◌++◌}
 use native.Mathlib.Omega.{arith}
-use native.Mathlib.Nat.{not-suc-le-zero, le_of_suc-le-suc}
-use native.Mathlib.Numerals.{add-one}
-use lib.ListN.{length, get_or, set, take}
-use lib.Seq.{take_all}
+use lib.ListN.{length, get_or, set}
 use lib.Dec.{eqb}
 use borrow.Author.Tests.{eq-eqb, ne_eqb, eqb-true}
+use Rattle.std.specs.Prelude.{◌&&◌, fold}
+use Rattle.std.specs.List.{zip}
+use Rattle.std.specs.Cmp.Lexicographic.{pointwise}
+use Rattle.std.proofs.lemmas.List.Sums.{fold-append}
 use Rattle.layout.specs.Choice.{pick, both}
 use Rattle.layout.specs.Run.{Next, go, stop, after}
 use Rattle.layout.specs.Layout.{good_ptr, word_of}
+use Rattle.layout.proofs.ChoiceLaws.{both_true}
 use Rattle.layout.proofs.RunLaws.{run-eq}
 use Rattle.layout.proofs.PointerLaws.{good_ptr-bounds}
 use Rattle.words.specs.WordSet.{empty_set, free_at, add_four, free_count}
 use Rattle.words.proofs.SetLaws.{free_count-falls}
 use Rattle.registers.specs.Table.{heads_of, flags_fit}
-use Rattle.book.specs.declared.Hop.{Hop}
-use Rattle.book.specs.declared.Hop.TheVariants.{Go}
 use Rattle.book.specs.Sound.{WSt, WOut, walk_step, walk_from, walk_all, same_list, first_step, firsts_from, firsts_all, length_fits}
 use Rattle.book.specs.Sound.{lengths_fit, sound}
 use Rattle.book.specs.World.{sound_book}
-use Rattle.book.specs.Hops.{walked, noted}
 
 -- a good pointer is not 0
-good-not-zero : (p : ℕ) → good_ptr p ≡ true → eqb p 0 ≡ false
-good-not-zero p g = ne_eqb p 0 (λ e. omega (arith, good_ptr-bounds p g))
+pub good_not_zero : (p : ℕ) → good_ptr p ≡ true → eqb p 0 ≡ false
+good_not_zero p g = ne_eqb p 0 (λ e. omega (arith, good_ptr-bounds p g))
 
 -- ---- the chain walk
 
@@ -67,26 +65,7 @@ walk_step-falls w s t e =
     refl
     e
 
-walk_step-bad-at : (b : Bool) (met : List ℕ) (x : Next WSt WOut) (g : Bool) → g ≡ false
-    → stop (b, met) ≡ pick b (stop (true, met)) (pick g x (stop (false, met)))
-walk_step-bad-at true met x g e = refl
-walk_step-bad-at false met x g e = simp e
-
 module _ (w : ℕ → ℕ) (met : List ℕ) (p : ℕ) where
-  pub walk_step-bad : good_ptr p ≡ false → stop (eqb p 0, met) ≡ walk_step w (met, p)
-  unfolding walk_step
-  walk_step-bad g = walk_step-bad-at (eqb p 0) met _ (good_ptr p) g
-
-  module _ {d : ℕ} (g : good_ptr p ≡ true) (at : d ≡ word_of p) where
-    pub walk_step-met : free_at met d ≡ false → stop (eqb p 0, met) ≡ walk_step w (met, p)
-    unfolding walk_step
-    walk_step-met h = simp (good-not-zero p g, g, ← at, h)
-
-    pub walk_step-go : {v : List ℕ} {next : ℕ} → free_at met d ≡ true → v ≡ add_four met d → next ≡ w d
-        → go (v, next) ≡ walk_step w (met, p)
-    unfolding walk_step
-    walk_step-go h l n = simp (good-not-zero p g, g, ← at, h, l, n)
-
   pub walk-eq : walk_from w met p ≡ after (walk_step w (met, p)) (λ t. walk_from w t.0 t.1)
   unfolding walk_from
   walk-eq = run-eq (walk_step w) _ _ (walk_step-falls w) (met, p)
@@ -102,21 +81,21 @@ module _ (w : ℕ → ℕ) (met : List ℕ) (p : ℕ) where
   module _ (g : good_ptr p ≡ true) where
     pub walk-met : free_at met (word_of p) ≡ false → walk_from w met p ≡ (false, met)
     unfolding walk_step
-    walk-met h = walk-eq ∙ simp (good-not-zero p g, g, h)
+    walk-met h = walk-eq ∙ simp (good_not_zero p g, g, h)
 
     pub walk-go : free_at met (word_of p) ≡ true → walk_from w met p ≡ walk_from w (add_four met (word_of p)) (w (word_of p))
     unfolding walk_step
-    walk-go h = walk-eq ∙ simp (good-not-zero p g, g, h)
+    walk-go h = walk-eq ∙ simp (good_not_zero p g, g, h)
 
-  module _ {r : Hop} (v : List ℕ) (told : walked r p v ≡ walk_step w (met, p)) where
-    pub walk-hop : (h : Hop) → r ≡ h → {o : WOut} → o ≡ after (walked h p v) (λ s. walk_from w s.0 s.1) → o ≡ walk_from w met p
-    walk-hop h e q =
-        q
-        ∙ ap (λ (n : Next WSt WOut). after n (λ s. walk_from w s.0 s.1)) (ap (λ (x : Hop). walked x p v) (sym e) ∙ told)
-        ∙ sym walk-eq
+  -- one step told: the walk goes on, or it is over
+  pub walk-on : {v : List ℕ} {next : ℕ} → go (v, next) ≡ walk_step w (met, p) → walk_from w v next ≡ walk_from w met p
+  walk-on e = sym (walk-eq ∙ ap (λ (n : Next WSt WOut). after n (λ s. walk_from w s.0 s.1)) (sym e))
 
-    pub walk-falls : (next n : ℕ) → r ≡ Go next → free_count met ≡ n → free_count v < n
-    walk-falls next n e q = rw (← q) (walk_step-falls w (met, p) (v, next) (sym told ∙ ap (λ (x : Hop). walked x p v) e))
+  pub walk-over : {o : WOut} → stop o ≡ walk_step w (met, p) → o ≡ walk_from w met p
+  walk-over e = sym (walk-eq ∙ ap (λ (n : Next WSt WOut). after n (λ s. walk_from w s.0 s.1)) (sym e))
+
+  pub walk-falls : {v : List ℕ} {next : ℕ} → go (v, next) ≡ walk_step w (met, p) → free_count v < free_count met
+  walk-falls e = walk_step-falls w (met, p) _ (sym e)
 
 -- ---- the first words
 
@@ -153,19 +132,6 @@ first_step-falls w s t e =
     e
 
 module _ (w : ℕ → ℕ) (firsts : List ℕ) (p : ℕ) where
-  pub first_step-bad : good_ptr p ≡ false → stop firsts ≡ first_step w (firsts, p)
-  unfolding first_step
-  first_step-bad g = simp g
-
-  module _ {d : ℕ} (g : good_ptr p ≡ true) (at : d ≡ word_of p) where
-    pub first_step-met : eqb (get_or firsts d 1) 0 ≡ false → stop firsts ≡ first_step w (firsts, p)
-    unfolding first_step
-    first_step-met h = simp (g, ← at, h)
-
-    pub first_step-go : {next : ℕ} → eqb (get_or firsts d 1) 0 ≡ true → next ≡ w d → go (set firsts d 1, next) ≡ first_step w (firsts, p)
-    unfolding first_step
-    first_step-go h n = simp (g, ← at, h, n)
-
   pub firsts-eq : firsts_from w firsts p ≡ after (first_step w (firsts, p)) (λ t. firsts_from w t.0 t.1)
   unfolding firsts_from
   firsts-eq = run-eq (first_step w) _ _ (first_step-falls w) (firsts, p)
@@ -174,70 +140,50 @@ module _ (w : ℕ → ℕ) (firsts : List ℕ) (p : ℕ) where
   unfolding first_step
   firsts-bad g = firsts-eq ∙ simp g
 
-  module _ {r : Hop} (v : List ℕ) (told : noted r v ≡ first_step w (firsts, p)) where
-    pub firsts-hop : (h : Hop) → r ≡ h → {o : List ℕ} → o ≡ after (noted h v) (λ s. firsts_from w s.0 s.1) → o ≡ firsts_from w firsts p
-    firsts-hop h e q =
-        q
-        ∙ ap (λ (n : Next WSt (List ℕ)). after n (λ s. firsts_from w s.0 s.1)) (ap (λ (x : Hop). noted x v) (sym e) ∙ told)
-        ∙ sym firsts-eq
+  -- one step told: the noting goes on, or it is over
+  pub firsts-on : {v : List ℕ} {next : ℕ} → go (v, next) ≡ first_step w (firsts, p) → firsts_from w v next ≡ firsts_from w firsts p
+  firsts-on e = sym (firsts-eq ∙ ap (λ (n : Next WSt (List ℕ)). after n (λ s. firsts_from w s.0 s.1)) (sym e))
 
-    pub firsts-falls : (next n : ℕ) → r ≡ Go next → free_count firsts ≡ n → free_count v < n
-    firsts-falls next n e q = rw (← q) (first_step-falls w (firsts, p) (v, next) (sym told ∙ ap (λ (x : Hop). noted x v) e))
+  pub firsts-over : {o : List ℕ} → stop o ≡ first_step w (firsts, p) → o ≡ firsts_from w firsts p
+  firsts-over e = sym (firsts-eq ∙ ap (λ (n : Next WSt (List ℕ)). after n (λ s. firsts_from w s.0 s.1)) (sym e))
+
+  pub firsts-falls : {v : List ℕ} {next : ℕ} → go (v, next) ≡ first_step w (firsts, p) → free_count v < free_count firsts
+  firsts-falls e = first_step-falls w (firsts, p) _ (sym e)
 
 -- ---- two lists entry by entry
 
-abbrev pub all_two : (ℕ → ℕ → Bool) → List ℕ → List ℕ → Bool
-all_two f [] [] = true
-all_two f [] (y ∷ ys) = false
-all_two f (x ∷ xs) [] = false
-all_two f (x ∷ xs) (y ∷ ys) = both (f x y) (all_two f xs ys)
+and-is : (a b : Bool) → (a && b) ≡ both a b
+and-is true b = refl
+and-is false b = refl
 
-pub same_list-is : (a b : List ℕ) → all_two eqb a b ≡ same_list a b
+pub and-both : (a b c : Bool) → both (a && b) c ≡ both a (both b c)
+and-both true b c = refl
+and-both false b c = refl
+
+pub same_list-is : (a b : List ℕ) → pointwise eqb a b ≡ same_list a b
 same_list-is [] [] = refl
 same_list-is [] (y ∷ b) = refl
 same_list-is (x ∷ a) [] = refl
-same_list-is (x ∷ a) (y ∷ b) = ap (λ (t : Bool). both (eqb x y) t) (same_list-is a b)
+same_list-is (x ∷ a) (y ∷ b) = and-is (eqb x y) (pointwise eqb a b) ∙ ap (λ (t : Bool). both (eqb x y) t) (same_list-is a b)
 
-pub lengths_fit-is : (a b : List ℕ) → all_two length_fits a b ≡ lengths_fit a b
-lengths_fit-is [] [] = refl
-lengths_fit-is [] (y ∷ b) = refl
-lengths_fit-is (x ∷ a) [] = refl
-lengths_fit-is (x ∷ a) (y ∷ b) = ap (λ (t : Bool). both (length_fits x y) t) (lengths_fit-is a b)
+-- the lengths asked one after the other
+abbrev pub fit_on : Bool → ℕ × ℕ → Bool
+fit_on fit e = fit && length_fits e.0 e.1
 
-both_true : (a : Bool) → both a true ≡ a
-both_true true = refl
-both_true false = refl
+fits-from : (fit : Bool) (a b : List ℕ) → length a ≡ length b → fold fit_on fit (zip a b) ≡ both fit (lengths_fit a b)
+fits-from fit [] [] h = sym (both_true fit)
+fits-from fit [] (y ∷ b) h = absurd (omega arith)
+fits-from fit (x ∷ a) [] h = absurd (omega arith)
+fits-from fit (x ∷ a) (y ∷ b) h =
+    let k : length a ≡ length b = omega arith in
+    fits-from (fit && length_fits x y) a b k ∙ and-both fit (length_fits x y) (lengths_fit a b)
 
-both_false : (a : Bool) → both a false ≡ false
-both_false true = refl
-both_false false = refl
+-- one pair more
+pub fit-next : (l : List (ℕ × ℕ)) (e : ℕ × ℕ) {a b : Bool} → a ≡ fold fit_on true l → b ≡ fit_on a e → b ≡ fold fit_on true (l ++ e ∷ [])
+fit-next l e h k = k ∙ ap (λ (t : Bool). fit_on t e) h ∙ sym (fold-append fit_on true l (e ∷ []))
 
-both-both : (a b c : Bool) → both a (both b c) ≡ both (both a b) c
-both-both true b c = refl
-both-both false b c = refl
-
-pub all_two-length : (f : ℕ → ℕ → Bool) (a b : List ℕ) → (length a ≡ length b → ⊥) → false ≡ all_two f a b
-all_two-length f [] [] n = absurd (n refl)
-all_two-length f [] (y ∷ b) n = refl
-all_two-length f (x ∷ a) [] n = refl
-all_two-length f (x ∷ a) (y ∷ b) n =
-    sym (both_false (f x y)) ∙ ap (λ (t : Bool). both (f x y) t) (all_two-length f a b (λ e. n (ap suc e)))
-
-more-at : (f : ℕ → ℕ → Bool) (a b : List ℕ) (i : ℕ) → i < length a → i < length b
-    → all_two f (take (suc i) a) (take (suc i) b) ≡ both (all_two f (take i a) (take i b)) (f (get_or a i 0) (get_or b i 0))
-more-at f [] b i h k = absurd (not-suc-le-zero h)
-more-at f (x ∷ a) [] i h k = absurd (not-suc-le-zero k)
-more-at f (x ∷ a) (y ∷ b) zero h k = both_true (f x y)
-more-at f (x ∷ a) (y ∷ b) (suc i) h k =
-    ap (λ (t : Bool). both (f x y) t) (more-at f a b i (le_of_suc-le-suc h) (le_of_suc-le-suc k)) ∙ both-both (f x y) _ _
-
-pub all_two-more : (f : ℕ → ℕ → Bool) (a b : List ℕ) (i : ℕ) {t : Bool} → i < length a → i < length b → t ≡ all_two f (take i a) (take i b)
-    → both t (f (get_or a i 0) (get_or b i 0)) ≡ all_two f (take (i + 1) a) (take (i + 1) b)
-all_two-more f a b i h k e = rw (add-one, e) (sym (more-at f a b i h k))
-
-pub all_two-whole : (f : ℕ → ℕ → Bool) (a b : List ℕ) (i : ℕ) → length a ≤ i → length b ≤ i
-    → all_two f (take i a) (take i b) ≡ all_two f a b
-all_two-whole f a b i h k = rw (take_all i a h, take_all i b k) refl
+pub lengths_fit-is : (a b : List ℕ) → length a ≡ length b → fold fit_on true (zip a b) ≡ lengths_fit a b
+lengths_fit-is a b h = fits-from true a b h
 
 -- ---- the tests of soundness, in their order
 

@@ -2,7 +2,7 @@
 -- Else OWNER clear, the queue goes through its first EOP descriptor (or to the end if none); if that one has EOQ the rest
 -- goes too; else repeat. OWNER set stops."
 --     Mode             where the walk stands: at a queue's head (Head), in a packet that goes (Packet), in a rest that goes (All)
---     Plan             what becomes of a descriptor: it is kept with all behind it, or dropped and the walk goes on in a mode
+--     Plan             what becomes of a descriptor: it is kept with all behind it (None), or dropped and the walk goes on in a mode (Some)
 --     plan mode x3     the plan for a descriptor, by its word 3
 --     released_from w u p mode   one queue: its new head, and words in use and lengths
 --     released_all w mode heads u   every queue in turn
@@ -10,7 +10,7 @@
 --     with_heads hs t   the table with other heads
 --     released_heads, released_book   the queues of a table; all three rules
 -- Laws: proofs/ReleaseLaws.antt. Assumes nothing: these are definitions.
-use Rattle.std.specs.Prelude.{ℕ, ◌+◌, Bool, not, List, [], ◌∷◌, ◌++◌, drop, eqb}
+use Rattle.std.specs.Prelude.{ℕ, ◌+◌, Bool, not, List, [], ◌∷◌, ◌++◌, drop, eqb, Option, None, Some}
 use Rattle.layout.specs.Choice.{pick, both}
 use Rattle.layout.specs.Bits.{clear_bit}
 use Rattle.layout.specs.Run.{Next, go, stop, run}
@@ -21,18 +21,19 @@ use Rattle.registers.specs.Table.{tearings_of, set_tearings, heads_of, cps_of, r
 use Rattle.registers.specs.Rules.{teardown_done}
 use Rattle.book.specs.declared.Mode.{Mode}
 use Rattle.book.specs.declared.Mode.TheVariants.{Head, Packet, All}
-use Rattle.book.specs.declared.Plan.{Plan}
-use Rattle.book.specs.declared.Plan.TheVariants.{Keep, Drop}
 use Rattle.book.specs.HandOver.{Uses, drop_one}
+
+abbrev pub Plan : Type 0
+Plan = Option Mode
 
 -- a descriptor of a packet that goes
 abbrev pub through : ℕ → Plan
-through x3 = pick (eop x3) (pick (eoq x3) (Drop All) (Drop Head)) (Drop Packet)
+through x3 = pick (eop x3) (pick (eoq x3) (Some All) (Some Head)) (Some Packet)
 
 unfoldable pub plan : Mode → ℕ → Plan
-plan All x3 = Drop All
+plan All x3 = Some All
 plan Packet x3 = through x3
-plan Head x3 = pick (td x3) (Drop All) (pick (owner x3) Keep (through x3))
+plan Head x3 = pick (td x3) (Some All) (pick (owner x3) None (through x3))
 
 abbrev pub RSt : Type 0
 RSt = Uses × ℕ × Mode
@@ -42,8 +43,8 @@ abbrev pub ROut : Type 0
 ROut = ℕ × Uses
 
 abbrev pub planned : Plan → Uses → ℕ → ℕ → Next RSt ROut
-planned Keep u p next = stop (p, u)
-planned (Drop mode) u p next = go (drop_one u (word_of p), next, mode)
+planned None u p next = stop (p, u)
+planned (Some mode) u p next = go (drop_one u (word_of p), next, mode)
 
 -- "The release goes descriptor by descriptor"; a pointer that names no descriptor in use ends it (0, in a sound book)
 unfoldable pub release_step : (ℕ → ℕ) → RSt → Next RSt ROut

@@ -1,12 +1,13 @@
 -- What holds along a chain. Assumes nothing.
 --     fault_at-step                  a step by the one number that holds 12 to 17
 --     fault_at-none, fault_at-16      no fault: a good pointer over free words; 16: a good pointer, and the length is in order
+--     fault_at-number                a fault's number is one from 12 to 17
 --     judge_step-go, judge_step-stop  where a step goes, and with what it stops
 --     judge_step-falls               a descriptor that hands on leaves fewer words that were not met
 --     chain-eq                      the recursion equation: one descriptor, and then the chain from where it goes
 --     chain-12, chain-13, chain-fault, chain-end, chain-go   its cases
 --     desc_fault-16                  where the fault is 16, the length is in order
---     chain-place                   the place of a fault is a word, and it is measured where the fault is 16
+--     chain-place                   the number of a fault is one from 12 to 17, its place a word, and it is measured where the fault is 16
 use Prim.Native.Nat.{ℕ, zero, suc, ◌+◌, ◌≤◌, ◌<◌, ◌^◌}
 use mathlib.Core.Path.{◌≡◌, refl, ap, ◌∙◌, sym}
 use mathlib.Core.Bool.{Bool, true, false}
@@ -23,43 +24,86 @@ use Rattle.layout.specs.declared.Side.{Side}
 use Rattle.words.specs.WordSet.{free_at, add_four, free_count}
 use Rattle.words.proofs.SetLaws.{free_count-falls}
 use Rattle.descriptor.specs.Fields.{sop, eop, owner, eoq, td, length_of, first_byte}
-use Rattle.descriptor.specs.Rules.{side_at, end_flags_fault, flags_fault, offset_bad, length_fault, behind}
+use Rattle.descriptor.specs.Rules.{side_at, end_flags_fault, flags_fault, offset_bad, length_fault}
+use Rattle.descriptor.specs.Rules.{end_fault, sum_fault, behind, next_fault}
 use Rattle.descriptor.proofs.RuleLaws.{side_at-behind}
 use Rattle.descriptor.specs.declared.Place.{Place}
 use Rattle.descriptor.specs.declared.Place.TheVariants.{Start, Middle, Buffer}
-use Rattle.chain.specs.Chain.{desc_fault, JSt, JOut, past_desc, judge_step, chain_of}
-use Rattle.chain.specs.Hands.{fault_at, Measured}
+use Rattle.chain.specs.Chain.{block_fault, desc_fault, JSt, JOut, past_desc, judge_step, chain_of}
+use Rattle.chain.specs.Hands.{fault_at, IsNumber, Measured}
 
 -- ---- which numbers a descriptor's rules give
 
-pick-le : (b : Bool) (x y n : ℕ) → x ≤ n → y ≤ n → pick b x y ≤ n
-pick-le true x y n h g = h
-pick-le false x y n h g = g
+-- none, or one from 12 to top
+abbrev Upto : ℕ → ℕ → Type 0
+Upto top n = (n ≡ 0) ⊎ ((12 ≤ n) × (n ≤ top))
 
-end_flags-le : (x3 : ℕ) → end_flags_fault x3 ≤ 14
-end_flags-le x3 = pick-le (eoq x3) 14 (pick (td x3) 14 0) 14 (omega arith) (pick-le (td x3) 14 0 14 (omega arith) (omega arith))
+one : (top n : ℕ) → 12 ≤ n → n ≤ top → Upto top n
+one top n h g = inr (h, g)
 
-flags_fault-le : (pl : Place) (x3 : ℕ) → flags_fault pl x3 ≤ 14
+higher : (top n k : ℕ) → Upto top n → top ≤ k → Upto k n
+higher top n k u h = ⊎_elim (λ z. inl z) (λ r. inr (r.0, omega arith)) u
+
+below : (top n : ℕ) → Upto top n → n ≤ top
+below top n u = ⊎_elim (λ z. omega arith) (λ r. r.1) u
+
+pick-upto : (b : Bool) (top x y : ℕ) → Upto top x → Upto top y → Upto top (pick b x y)
+pick-upto true top x y h g = h
+pick-upto false top x y h g = g
+
+flag : Upto 14 14
+flag = inr (omega arith, omega arith)
+
+end_flags-upto : (x3 : ℕ) → Upto 14 (end_flags_fault x3)
+end_flags-upto x3 = pick-upto (eoq x3) 14 14 _ flag (pick-upto (td x3) 14 14 0 flag (inl refl))
+
+flags_fault-upto : (pl : Place) (x3 : ℕ) → Upto 14 (flags_fault pl x3)
 unfolding flags_fault
-flags_fault-le Start x3 =
-    pick-le (sop x3) (pick (owner x3) (end_flags_fault x3) 14) 14 14
-    (pick-le (owner x3) (end_flags_fault x3) 14 14 (end_flags-le x3) (omega arith)) (omega arith)
-flags_fault-le (Middle s n) x3 = pick-le (sop x3) 14 (end_flags_fault x3) 14 (omega arith) (end_flags-le x3)
-flags_fault-le Buffer x3 =
-    pick-le (owner x3) (pick (sop x3) 14 (pick (eop x3) 14 (end_flags_fault x3))) 14 14
-    (pick-le (sop x3) 14 (pick (eop x3) 14 (end_flags_fault x3)) 14 (omega arith)
-    (pick-le (eop x3) 14 (end_flags_fault x3) 14 (omega arith) (end_flags-le x3))) (omega arith)
+flags_fault-upto Start x3 =
+    pick-upto (sop x3) 14 _ 14 (pick-upto (owner x3) 14 _ 14 (end_flags-upto x3) flag) flag
+flags_fault-upto (Middle s n) x3 = pick-upto (sop x3) 14 14 _ flag (end_flags-upto x3)
+flags_fault-upto Buffer x3 =
+    pick-upto (owner x3) 14 _ 14 (pick-upto (sop x3) 14 14 _ flag (pick-upto (eop x3) 14 14 _ flag (end_flags-upto x3))) flag
 
-length_fault-le : (side : Side) (x1 x2 x3 : ℕ) → length_fault side x1 x2 x3 ≤ 15
+length_fault-upto : (side : Side) (x1 x2 x3 : ℕ) → Upto 15 (length_fault side x1 x2 x3)
 unfolding length_fault
-length_fault-le side x1 x2 x3 =
-    at (eqb (length_of side x2) 0) (offset_bad side x2) (ltb address_end (first_byte side x1 x2 x3 + length_of side x2))
+length_fault-upto side x1 x2 x3 =
+    pick-upto (eqb (length_of side x2) 0) 15 15 _ bad
+    (pick-upto (offset_bad side x2) 15 15 _ bad
+    (pick-upto (ltb address_end (first_byte side x1 x2 x3 + length_of side x2)) 15 15 0 bad (inl refl)))
   where
-    at : (a b c : Bool) → pick a 15 (pick b 15 (pick c 15 0)) ≤ 15
-    at true b c = omega arith
-    at false true c = omega arith
-    at false false true = omega arith
-    at false false false = omega arith
+    bad : Upto 15 15
+    bad = inr (omega arith, omega arith)
+
+block_fault-upto : (kinds : List ℕ) (side : Side) (x1 x2 x3 : ℕ) → Upto 17 (block_fault kinds side x1 x2 x3)
+unfolding block_fault
+block_fault-upto kinds side x1 x2 x3 = pick-upto _ 17 0 16 (inl refl) (inr (omega arith, omega arith))
+
+unfinished : Upto 17 17
+unfinished = inr (omega arith, omega arith)
+
+sum_fault-upto : (pl : Place) (x2 x3 : ℕ) → Upto 17 (sum_fault pl x2 x3)
+unfolding sum_fault end_fault
+sum_fault-upto Start x2 x3 = pick-upto (eop x3) 17 _ 0 (pick-upto _ 17 0 17 (inl refl) unfinished) (inl refl)
+sum_fault-upto (Middle s n) x2 x3 = pick-upto (eop x3) 17 _ 0 (pick-upto _ 17 0 17 (inl refl) unfinished) (inl refl)
+sum_fault-upto Buffer x2 x3 = inl refl
+
+next_fault-upto : (pl : Place) (x0 : ℕ) → Upto 17 (next_fault pl x0)
+unfolding next_fault
+next_fault-upto Start x0 = pick-upto (eqb x0 0) 17 0 0 (inl refl) (inl refl)
+next_fault-upto (Middle s n) x0 = pick-upto (eqb x0 0) 17 17 0 unfinished (inl refl)
+next_fault-upto Buffer x0 = pick-upto (eqb x0 0) 17 0 0 (inl refl) (inl refl)
+
+or_else-upto : (a b : ℕ) → Upto 17 a → Upto 17 b → Upto 17 (or_else a b)
+or_else-upto a b h g = pick-upto (eqb a 0) 17 b a g h
+
+desc_fault-upto : (kinds : List ℕ) (w : ℕ → ℕ) (pl : Place) (d : ℕ) → Upto 17 (desc_fault kinds w pl d)
+unfolding desc_fault
+desc_fault-upto kinds w pl d =
+    or_else-upto _ _ (higher 14 _ 17 (flags_fault-upto pl (w (d + 3))) (omega arith))
+    (or_else-upto _ _ (higher 15 _ 17 (length_fault-upto (side_at pl) (w (d + 1)) (w (d + 2)) (w (d + 3))) (omega arith))
+    (or_else-upto _ _ (block_fault-upto kinds (side_at pl) (w (d + 1)) (w (d + 2)) (w (d + 3)))
+    (or_else-upto _ _ (sum_fault-upto pl (w (d + 2)) (w (d + 3))) (next_fault-upto (behind pl (w (d + 2)) (w (d + 3))) (w d)))))
 
 -- a higher number says that the lower rule was kept
 past-lower : (n a b : ℕ) → a < n → or_else a b ≡ n → (a ≡ 0) × (b ≡ n)
@@ -73,9 +117,9 @@ pub desc_fault-16 : (kinds : List ℕ) (w : ℕ → ℕ) (pl : Place) (d : ℕ) 
     → length_fault (side_at pl) (w (d + 1)) (w (d + 2)) (w (d + 3)) ≡ 0
 unfolding desc_fault
 desc_fault-16 kinds w pl d e =
-    let flags = past-lower 16 (flags_fault pl (w (d + 3))) _ (omega (arith, flags_fault-le pl (w (d + 3)))) e in
+    let flags = past-lower 16 (flags_fault pl (w (d + 3))) _ (omega (arith, below 14 _ (flags_fault-upto pl (w (d + 3))))) e in
     let size = length_fault (side_at pl) (w (d + 1)) (w (d + 2)) (w (d + 3)) in
-    (past-lower 16 size _ (omega (arith, length_fault-le (side_at pl) (w (d + 1)) (w (d + 2)) (w (d + 3)))) flags.1).0
+    (past-lower 16 size _ (omega (arith, below 15 _ (length_fault-upto (side_at pl) (w (d + 1)) (w (d + 2)) (w (d + 3))))) flags.1).0
 
 -- ---- one descriptor
 
@@ -110,6 +154,12 @@ module _ (kinds : List ℕ) (w : ℕ → ℕ) (pl : Place) (met : List ℕ) (p :
       at true true g q = (g, desc_fault-16 kinds w pl (word_of p) q)
       at true false g q = absurd (omega arith)
       at false b g q = absurd (omega arith)
+
+  pub fault_at-number : IsNumber (fault_at kinds w pl met p)
+  unfolding fault_at
+  fault_at-number =
+      pick-upto (good_ptr p) 17 _ 12 (pick-upto (free_at met (word_of p)) 17 _ 13 (desc_fault-upto kinds w pl (word_of p))
+      (inr (omega arith, omega arith))) (inr (omega arith, omega arith))
 
   -- the descriptor after this one, with its place and the words met before it
   abbrev onward : JSt
@@ -209,12 +259,12 @@ module _ (kinds : List ℕ) (w : ℕ → ℕ) (small : (k : ℕ) → w k < 2 ^ 3
   Stands s = (side_at s.0 ≡ side) × (s.2 < 2 ^ 32)
 
   abbrev Told : JOut → Type 0
-  Told j = (j.1 < 2 ^ 32) × (j.0 ≡ 16 → Measured w side j.1)
+  Told j = IsNumber j.0 × (j.1 < 2 ^ 32) × (j.0 ≡ 16 → Measured w side j.1)
 
   stop-told : (s : JSt) (j : JOut) → Stands s → judge_step kinds w s ≡ stop j → Told j
   stop-told s j i e =
-      ⊎_elim (λ k. rw (← k) (omega arith, λ z. absurd (omega arith)))
-      (λ k. rw (← k) (i.1, λ z. rw (← i.0) (fault_at-16 kinds w s.0 s.1 s.2 z)))
+      ⊎_elim (λ k. rw (← k) (inl refl, omega arith, λ z. absurd (omega arith)))
+      (λ k. rw (← k) (fault_at-number kinds w s.0 s.1 s.2, i.1, λ z. rw (← i.0) (fault_at-16 kinds w s.0 s.1 s.2 z)))
       (judge_step-stop kinds w s.0 s.1 s.2 j e)
 
   go-stands : (s t : JSt) → Stands s → judge_step kinds w s ≡ go t → Stands t
@@ -223,4 +273,5 @@ module _ (kinds : List ℕ) (w : ℕ → ℕ) (small : (k : ℕ) → w k < 2 ^ 3
   pub chain-place : (pl : Place) (met : List ℕ) (p : ℕ) → side_at pl ≡ side → p < 2 ^ 32 → Told (chain_of kinds w pl met p)
   unfolding chain_of
   chain-place pl met p e h =
-      run-all (judge_step kinds w) _ Stands Told (λ s i. (omega arith, λ z. absurd (omega arith))) stop-told go-stands _ (pl, met, p) (e, h)
+      run-all (judge_step kinds w) _ Stands Told (λ s i. (inl refl, omega arith, λ z. absurd (omega arith)))
+      stop-told go-stands _ (pl, met, p) (e, h)

@@ -1,17 +1,15 @@
--- What the rules and their leaves hand on, as steps of the judge. Assumes nothing.
---     desc_fault-words               a descriptor's fault, by its four words
---     unpacked-packed               a number and its place come out of the packed number as they went in
---     step-refused, step_past       a step by the one number that holds 12 to 17
---     transmit-refused, transmit-past, receive-refused, receive-end, receive-past   what each leaf hands on
---     transmit-eq, receive-eq       what a rule answers is what follows the hand that it was given
---     transmit-less, receive-less   and that is over fewer words
---     follow-told                   the place in such a number is a word; where the number is 16, the descriptor there has its length in
---                                   order
---     measured-words, buffer_room-words   the descriptor there, by its four words
---     said-good, said_plain, said-barred   the answer, by the number
---     verdict-told                  the answer from the rules' number
---     ends-good, single-16, verdict-single   the answer from the one descriptor of a chain
-use Prim.Native.Nat.{ℕ, ◌+◌, ◌*◌, ◌/◌, ◌%◌, ◌<◌, ◌^◌}
+-- What the rules and their leaf hand on, as steps of the judge. Assumes nothing.
+--     fault_of_at                    a descriptor's fault, by its four words
+--     judged_refused, judged_met     what the leaf hands on
+--     hand_refused, hand_end, hand_start, hand_middle, hand_buffer   what a rule answers is what follows the hand that it was given
+--     hand_less                     and that is over fewer words
+--     leaves, hands                 these laws, for the check to try
+--     follow_number, follow_place, follow_measured   the number and the place in what the rules answer; where the number is 16, the
+--                                   descriptor there has its length in order
+--     measured_words, buffer_room_words, said_barred   the descriptor there, by its four words, and the answer
+--     verdict_told                  the answer from the rules' number
+--     single_16, verdict_single     the answer from the one descriptor of a chain
+use Prim.Native.Nat.{ℕ, ◌/◌, ◌%◌, ◌<◌, ◌^◌}
 use mathlib.Core.Path.{◌≡◌, refl, ap, ◌∙◌, sym}
 use mathlib.Core.Bool.{Bool, true, false}
 use mathlib.Core.Logic.{◌≢◌}
@@ -19,129 +17,127 @@ use mathlib.Core.List.{List, []}
 use native.Mathlib.Omega.{arith}
 use lib.Dec.{eqb}
 use borrow.Author.Tests.{eq-eqb, ne_eqb}
-use Rattle.layout.specs.Choice.{pick, or_else}
-use Rattle.layout.proofs.ChoiceLaws.{both_left, both_right}
+use Rattle.std.specs.Prelude.{Result, Ok, Err}
+use Rattle.layout.specs.Choice.{pick}
+use Rattle.layout.proofs.ChoiceLaws.{both_right}
+use Rattle.layout.specs.Refusals.{refusal_number}
+use Rattle.layout.specs.declared.refusals.Refusal.{Refusal}
+use Rattle.layout.specs.declared.refusals.Refusal.TheVariants.{Unfit, Unsound, Misaligned, NotGuarded, NotOffered, NotInitialised}
+use Rattle.layout.specs.declared.refusals.Refusal.TheVariants.{ResetPending, TeardownPending, BadValue, Busy, WordInUse, BadPointer}
+use Rattle.layout.specs.declared.refusals.Refusal.TheVariants.{Overlap, Flags, BadLength, NotPermitted, Unfinished, NoBlock, BadKind}
+use Rattle.layout.specs.declared.refusals.Refusal.TheVariants.{NotLinux, InReception, Undefined, BadFrame, Dropped}
 use Rattle.layout.specs.Run.{Next, go, stop, after}
 use Rattle.layout.specs.Layout.{good_ptr, word_of}
 use Rattle.layout.specs.declared.Side.{Side}
 use Rattle.layout.specs.declared.Side.TheVariants.{Transmit, Receive}
+use Rattle.words.specs.Word.{word}
 use Rattle.words.specs.WordSet.{add_four, free_count}
+use Rattle.words.proofs.WordLaws.{Bytes, word_lt}
 use Rattle.blocks.specs.Room.{room_of}
 use Rattle.blocks.specs.declared.Room.{Room}
-use Rattle.blocks.specs.declared.Room.TheVariants.{Free}
 use Rattle.descriptor.specs.Fields.{desc_at, eop, length_of, first_byte}
-use Rattle.descriptor.specs.Rules.{side_at, flags_fault, length_fault, sop_at, sum_at, sum_fault, behind, next_fault}
-use Rattle.descriptor.proofs.RuleLaws.{behind-end, behind-inside}
+use Rattle.descriptor.specs.Rules.{side_at, length_fault, sop_at, sum_at, behind}
 use Rattle.descriptor.specs.declared.Descriptor.{Descriptor}
 use Rattle.descriptor.specs.declared.Place.{Place}
-use Rattle.descriptor.specs.declared.Place.TheVariants.{Buffer}
-use Rattle.chain.specs.declared.TransmitHand.{TransmitHand}
-use Rattle.chain.specs.declared.TransmitHand.TheVariants as transmit
-use Rattle.chain.specs.declared.ReceiveHand.{ReceiveHand}
-use Rattle.chain.specs.declared.ReceiveHand.TheVariants as receive
-use Rattle.chain.specs.declared.Verdict.{Verdict}
-use Rattle.chain.specs.declared.Verdict.TheVariants.{Good, Bad}
-use Rattle.chain.specs.Chain.{block_fault, desc_fault, JSt, JOut, past_desc, judge_step, chain_of, place_of, buffer_room, said, verdict_of}
-use Rattle.chain.specs.Hands.{packed, unpacked, fault_at, Measured, single, transmit_past, transmit_step, receive_step}
+use Rattle.descriptor.specs.declared.Place.TheVariants.{Start, Middle, Buffer}
+use Rattle.descriptor.proofs.RuleLaws.{behind-end, behind-inside}
+use Rattle.chain.specs.Chain.{desc_fault, JSt, JOut, judge_step, chain_of, place_of, buffer_room, Said, said, verdict_of}
+use Rattle.chain.specs.Hands.{unpacked, fault_of, fault_at, judged, IsNumber, Measured, single}
 use Rattle.chain.proofs.ChainLaws.{fault_at-step, fault_at-16, judge_step-falls, chain-eq, chain-place}
 
--- ---- a descriptor by its four words
+pub fault_of_at : (kinds : List ℕ) (w : ℕ → ℕ) (pl : Place) (k : ℕ) (d : Descriptor) → d ≡ desc_at w k
+    → fault_of kinds pl d ≡ desc_fault kinds w pl k
+unfolding fault_of desc_fault desc_at
+fault_of_at kinds w pl k d e = rw e refl
 
-pub desc_fault-words : (kinds : List ℕ) (w : ℕ → ℕ) (pl : Place) (k : ℕ) (d : Descriptor) → d ≡ desc_at w k
-    → desc_fault kinds w pl k
-    ≡ or_else (flags_fault pl d.word3)
-    (or_else (length_fault (side_at pl) d.buffer d.word2 d.word3)
-    (or_else (block_fault kinds (side_at pl) d.buffer d.word2 d.word3)
-    (or_else (sum_fault pl d.word2 d.word3) (next_fault (behind pl d.word2 d.word3) d.next))))
-unfolding desc_fault desc_at
-desc_fault-words kinds w pl k d e = rw e refl
+-- ---- what the leaf hands on
 
--- ---- what a leaf hands on
+refuses : (r : Refusal) → refusal_number r ≢ 0
+refuses Unfit = λ z. absurd (omega arith)
+refuses Unsound = λ z. absurd (omega arith)
+refuses Misaligned = λ z. absurd (omega arith)
+refuses NotGuarded = λ z. absurd (omega arith)
+refuses NotOffered = λ z. absurd (omega arith)
+refuses NotInitialised = λ z. absurd (omega arith)
+refuses ResetPending = λ z. absurd (omega arith)
+refuses TeardownPending = λ z. absurd (omega arith)
+refuses BadValue = λ z. absurd (omega arith)
+refuses Busy = λ z. absurd (omega arith)
+refuses WordInUse = λ z. absurd (omega arith)
+refuses BadPointer = λ z. absurd (omega arith)
+refuses Overlap = λ z. absurd (omega arith)
+refuses Flags = λ z. absurd (omega arith)
+refuses BadLength = λ z. absurd (omega arith)
+refuses NotPermitted = λ z. absurd (omega arith)
+refuses Unfinished = λ z. absurd (omega arith)
+refuses NoBlock = λ z. absurd (omega arith)
+refuses BadKind = λ z. absurd (omega arith)
+refuses NotLinux = λ z. absurd (omega arith)
+refuses InReception = λ z. absurd (omega arith)
+refuses Undefined = λ z. absurd (omega arith)
+refuses BadFrame = λ z. absurd (omega arith)
+refuses Dropped = λ z. absurd (omega arith)
 
-pub unpacked-packed : (n p : ℕ) (met : List ℕ) → n < 256 → unpacked (packed n p) met ≡ (n, p, met)
-unpacked-packed n p met h =
-    let a : (n + 256 * p) % 256 ≡ n = omega arith in
-    let b : (n + 256 * p) / 256 ≡ p = omega arith in
-    rw (a, b) refl
+module _ (kinds : List ℕ) (w : ℕ → ℕ) (pl : Place) (met : List ℕ) (p : ℕ) where
+  pub judged_refused : (r : Refusal) → refusal_number r ≡ fault_at kinds w pl met p
+      → judged pl p (Err r) met ≡ judge_step kinds w (pl, met, p)
+  unfolding judged
+  judged_refused r e = sym (fault_at-step kinds w pl met p ∙ rw (← e, ne_eqb (refusal_number r) 0 (refuses r)) refl)
 
-module _ (kinds : List ℕ) (w : ℕ → ℕ) (pl : Place) (met : List ℕ) (p n : ℕ) (is : n ≡ fault_at kinds w pl met p) where
-  step-refused : (v : ℕ) → n ≢ 0 → n < 256 → v ≡ packed n p → stop (unpacked v met) ≡ judge_step kinds w (pl, met, p)
-  step-refused v z h e =
-      rw (e, unpacked-packed n p met h)
-      (sym (fault_at-step kinds w pl met p ∙ rw (← is, ne_eqb n 0 z) refl))
-
-  step_past : (k : ℕ) → n ≡ 0 → k ≡ word_of p → past_desc w pl met k ≡ judge_step kinds w (pl, met, p)
-  step_past k z e = rw e (sym (fault_at-step kinds w pl met p ∙ rw (← is, eq-eqb n 0 z) refl))
-
-  pub transmit-refused : (v : ℕ) → n ≢ 0 → n < 256 → v ≡ packed n p → transmit_step (transmit.Stop v) met ≡ judge_step kinds w (pl, met, p)
-  unfolding transmit_step
-  transmit-refused v z h e = step-refused v z h e
-
-  pub receive-refused : (v : ℕ) → n ≢ 0 → n < 256 → v ≡ packed n p → receive_step (receive.Stop v) met ≡ judge_step kinds w (pl, met, p)
-  unfolding receive_step
-  receive-refused v z h e = step-refused v z h e
-
--- past a transmit descriptor the place behind it decides the rule
-past-transmit : (w : ℕ → ℕ) (pl : Place) (met : List ℕ) (k : ℕ) → side_at pl ≡ Transmit
-    → transmit_step (transmit_past pl (w k) (w (k + 2)) (w (k + 3))) (add_four met k) ≡ past_desc w pl met k
-unfolding transmit_past transmit_step
-past-transmit w pl met k s = at (eqb (w k) 0) (eop (w (k + 3))) refl
-  where
-    at : (a b : Bool) → eop (w (k + 3)) ≡ b
-        → transmit_step (pick a (transmit.Stop 0)
-        (pick b (transmit.Start (w k)) (transmit.Middle (w k) (sop_at pl (w (k + 3))) (sum_at pl (w (k + 2)))))) (add_four met k)
-        ≡ pick {A = Next JSt JOut} a (stop (0, 0, add_four met k)) (go (behind pl (w (k + 2)) (w (k + 3)), add_four met k, w k))
-    at true b e = refl
-    at false true e = rw (behind-end pl (w (k + 2)) (w (k + 3)) s e) refl
-    at false false e = rw (behind-inside pl (w (k + 2)) (w (k + 3)) s e) refl
-
-module _ (kinds : List ℕ) (w : ℕ → ℕ) (pl : Place) (met : List ℕ) (p n : ℕ) (is : n ≡ fault_at kinds w pl met p) (none : n ≡ 0)
-    (k : ℕ) (at-k : k ≡ word_of p) (l : List ℕ) (marked : l ≡ add_four met k) where
-  pub transmit-past : (d : Descriptor) (h : TransmitHand) → side_at pl ≡ Transmit → d ≡ desc_at w k
-      → h ≡ transmit_past pl d.next d.word2 d.word3
-      → transmit_step h l ≡ judge_step kinds w (pl, met, p)
-  unfolding desc_at
-  transmit-past d h s e q = rw (q, e, marked) (past-transmit w pl met k s) ∙ step_past kinds w pl met p n is k none at-k
-
-module _ (kinds : List ℕ) (w : ℕ → ℕ) (met : List ℕ) (p n : ℕ) (is : n ≡ fault_at kinds w Buffer met p) (none : n ≡ 0)
-    (k : ℕ) (at-k : k ≡ word_of p) (l : List ℕ) (marked : l ≡ add_four met k) (next : ℕ) (word-0 : next ≡ w k) where
-  pub receive-end : next ≡ 0 → receive_step (receive.Stop 0) l ≡ judge_step kinds w (Buffer, met, p)
-  unfolding receive_step
-  receive-end z = rw marked (sym (rw (eq-eqb (w k) 0 (sym word-0 ∙ z)) refl)) ∙ step_past kinds w Buffer met p n is k none at-k
-
-  pub receive-past : next ≢ 0 → receive_step (receive.Buffer next) l ≡ judge_step kinds w (Buffer, met, p)
-  unfolding receive_step behind
-  receive-past z = rw (marked, word-0) (sym (rw (ne_eqb (w k) 0 (λ e. z (word-0 ∙ e))) refl))
-      ∙ step_past kinds w Buffer met p n is k none at-k
+  pub judged_met : (k : ℕ) (d : Descriptor) (l : List ℕ) → 0 ≡ fault_at kinds w pl met p → k ≡ word_of p → d ≡ desc_at w k
+      → l ≡ add_four met k
+      → judged pl p (Ok d) l ≡ judge_step kinds w (pl, met, p)
+  unfolding judged desc_at
+  judged_met k d l e at is marked = rw (is, marked, at) (sym (fault_at-step kinds w pl met p ∙ rw (← e) refl))
 
 -- ---- what a rule answers
 
-module _ (kinds : List ℕ) (w : ℕ → ℕ) (pl : Place) (met : List ℕ) (p : ℕ) where
-  -- the chain behind a step
-  abbrev rest : Next JSt JOut → JOut
-  rest x = after x (λ t. chain_of kinds w t.0 t.1 t.2)
+module _ (kinds : List ℕ) (w : ℕ → ℕ) (pl : Place) (met : List ℕ) (p : ℕ) (h : Result Descriptor Refusal) (l : List ℕ)
+    (is : judged pl p h l ≡ judge_step kinds w (pl, met, p)) where
+  -- the chain behind what was handed on
+  abbrev rest : Result Descriptor Refusal → JOut
+  rest g = after (judged pl p g l) (λ t. chain_of kinds w t.0 t.1 t.2)
 
-  module _ (x : Next JSt JOut) (is : x ≡ judge_step kinds w (pl, met, p)) where
-    step-eq : rest x ≡ chain_of kinds w pl met p
-    step-eq = sym (chain-eq kinds w pl met p ∙ ap (λ (z : Next JSt JOut). rest z) (sym is))
+  rest-eq : (g : Result Descriptor Refusal) → h ≡ g → rest g ≡ chain_of kinds w pl met p
+  rest-eq g e =
+      sym (chain-eq kinds w pl met p
+      ∙ ap (λ (z : Next JSt JOut). after z (λ t. chain_of kinds w t.0 t.1 t.2)) (rw e at (sym is)))
 
-    step_less : (s : JSt) → x ≡ go s → (t : ℕ) → free_count met ≡ t → free_count s.1 < t
-    step_less s g t μ = rw (← μ) (judge_step-falls kinds w (pl, met, p) s (sym is ∙ g))
+  pub hand_refused : (r : Refusal) → h ≡ Err r → (v : ℕ) → v % 256 ≡ refusal_number r → v / 256 ≡ p
+      → unpacked v l ≡ chain_of kinds w pl met p
+  unfolding judged
+  hand_refused r e v n at = rw (n, at) (rest-eq (Err r) e)
 
-  module _ (h : TransmitHand) (l : List ℕ) (is : transmit_step h l ≡ judge_step kinds w (pl, met, p))
-      (g : TransmitHand) (given : h ≡ g) where
-    pub transmit-eq : rest (transmit_step g l) ≡ chain_of kinds w pl met p
-    transmit-eq = step-eq (transmit_step g l) (rw given at is)
+  module _ (d : Descriptor) (found : h ≡ Ok d) where
+    pub hand_end : d.next ≡ 0 → (0, 0, l) ≡ chain_of kinds w pl met p
+    unfolding judged
+    hand_end z = rw (eq-eqb d.next 0 z) at (rest-eq (Ok d) found)
 
-    pub transmit-less : (s : JSt) → transmit_step g l ≡ go s → (t : ℕ) → free_count met ≡ t → free_count s.1 < t
-    transmit-less s e t μ = step_less (transmit_step g l) (rw given at is) s e t μ
+    module _ (on : d.next ≢ 0) where
+      hand_go : (b : Place) (j : JOut) → behind pl d.word2 d.word3 ≡ b → j ≡ chain_of kinds w b l d.next
+          → j ≡ chain_of kinds w pl met p
+      unfolding judged
+      hand_go b j e q = q ∙ rw e at (rw (ne_eqb d.next 0 on) at (rest-eq (Ok d) found))
 
-  module _ (h : ReceiveHand) (l : List ℕ) (is : receive_step h l ≡ judge_step kinds w (pl, met, p)) (g : ReceiveHand) (given : h ≡ g) where
-    pub receive-eq : rest (receive_step g l) ≡ chain_of kinds w pl met p
-    receive-eq = step-eq (receive_step g l) (rw given at is)
+      pub hand_start : side_at pl ≡ Transmit → eop d.word3 ≡ true → (j : JOut) → j ≡ chain_of kinds w Start l d.next
+          → j ≡ chain_of kinds w pl met p
+      hand_start s f j q = hand_go Start j (behind-end pl d.word2 d.word3 s f) q
 
-    pub receive-less : (s : JSt) → receive_step g l ≡ go s → (t : ℕ) → free_count met ≡ t → free_count s.1 < t
-    receive-less s e t μ = step_less (receive_step g l) (rw given at is) s e t μ
+      pub hand_middle : side_at pl ≡ Transmit → eop d.word3 ≡ false → (s n : ℕ) → s ≡ sop_at pl d.word3 → n ≡ sum_at pl d.word2
+          → (j : JOut) → j ≡ chain_of kinds w (Middle s n) l d.next
+          → j ≡ chain_of kinds w pl met p
+      hand_middle t f s n es en j q = hand_go (Middle s n) j (behind-inside pl d.word2 d.word3 t f ∙ rw (es, en) refl) q
+
+      pub hand_buffer : pl ≡ Buffer → (j : JOut) → j ≡ chain_of kinds w Buffer l d.next → j ≡ chain_of kinds w pl met p
+      unfolding behind
+      hand_buffer e j q = hand_go Buffer j (rw e refl) q
+
+      goes : judge_step kinds w (pl, met, p) ≡ go (behind pl d.word2 d.word3, l, d.next)
+      unfolding judged
+      goes = sym is ∙ rw (found, ne_eqb d.next 0 on) refl
+
+      pub hand_less : (t : ℕ) → free_count met ≡ t → free_count l < t
+      hand_less t μ = rw (← μ) (judge_step-falls kinds w (pl, met, p) (behind pl d.word2 d.word3, l, d.next) goes)
 
 -- ---- what is said of a chain
 
@@ -149,39 +145,35 @@ place_of-side : (side : Side) → side_at (place_of side) ≡ side
 place_of-side Transmit = refl
 place_of-side Receive = refl
 
-module _ (kinds : List ℕ) (w : ℕ → ℕ) (side : Side) (met : List ℕ) (p v : ℕ) (l : List ℕ)
-    (is : unpacked v l ≡ chain_of kinds w (place_of side) met p) where
-  pub follow-told : ((k : ℕ) → w k < 2 ^ 32) → p < 2 ^ 32 → (v / 256 < 2 ^ 32) × (v % 256 ≡ 16 → Measured w side (v / 256))
-  follow-told small h = rw (← is) at (chain-place kinds w small side (place_of side) met p (place_of-side side) h)
+module _ (kinds m : List ℕ) (side : Side) (met : List ℕ) (p v : ℕ) (l : List ℕ)
+    (is : unpacked v l ≡ chain_of kinds (word m) (place_of side) met p) where
+  module _ (fits : Bytes m) (h : p < 2 ^ 32) where
+    follow_told : IsNumber (v % 256) × (v / 256 < 2 ^ 32) × (v % 256 ≡ 16 → Measured (word m) side (v / 256))
+    follow_told =
+        rw (← is) at (chain-place kinds (word m) (λ k. word_lt m k fits) side (place_of side) met p (place_of-side side) h)
 
-  pub verdict-told : (r : Verdict) → r ≡ said kinds w side (v % 256, v / 256, []) → (r, l) ≡ verdict_of side kinds w met p
+    pub follow_number : IsNumber (v % 256)
+    follow_number = follow_told.0
+
+    pub follow_place : v / 256 < 2 ^ 32
+    follow_place = follow_told.1
+
+    pub follow_measured : (n : ℕ) → n ≡ v % 256 → n ≡ 16 → Measured (word m) side (v / 256)
+    follow_measured n e z = follow_told.2 (sym e ∙ z)
+
+  pub verdict_told : (n : ℕ) → n ≡ v % 256 → (r : Result Unit Said) → r ≡ said kinds (word m) side (n, v / 256, [])
+      → (r, l) ≡ verdict_of side kinds (word m) met p
   unfolding verdict_of
-  verdict-told r e = rw (← is, e) refl
-
--- the answer by the number n and its place p
-module _ (kinds : List ℕ) (w : ℕ → ℕ) (side : Side) (n p : ℕ) where
-  pub said-good : n ≡ 0 → Good ≡ said kinds w side (n, p, [])
-  said-good z = rw (eq-eqb n 0 z) refl
-
-  pub said_plain : n ≢ 0 → n ≢ 16 → Bad (record { number = n; place = p; room = Free }) ≡ said kinds w side (n, p, [])
-  said_plain z b = rw (ne_eqb n 0 z, ne_eqb n 16 b) refl
-
-  pub said-barred : (room : Room) → n ≡ 16 → room ≡ buffer_room kinds w side (word_of p)
-      → Bad (record { number = n; place = p; room = room }) ≡ said kinds w side (n, p, [])
-  said-barred room b e = rw (← e, b) refl
+  verdict_told n en r e = rw (← is, e, en) refl
 
 -- a chain of one descriptor: its fault is the chain's
-pub ends-good : (w : ℕ → ℕ) (p : ℕ) → single w p ≡ true → good_ptr p ≡ true
-unfolding single
-ends-good w p e = both_left (good_ptr p) (eqb (w (word_of p)) 0) e
-
 module _ (kinds : List ℕ) (w : ℕ → ℕ) (side : Side) (met : List ℕ) (p n : ℕ) (pl : Place) (at : pl ≡ place_of side)
     (is : n ≡ fault_at kinds w pl met p) where
   fault-is : n ≡ fault_at kinds w (place_of side) met p
   fault-is = rw (← at) is
 
-  pub single-16 : n ≡ 16 → Measured w side p
-  single-16 z = rw (place_of-side side) at (fault_at-16 kinds w (place_of side) met p (sym fault-is ∙ z))
+  pub single_16 : n ≡ 16 → Measured w side p
+  single_16 z = rw (place_of-side side) at (fault_at-16 kinds w (place_of side) met p (sym fault-is ∙ z))
 
   one-step : single w p ≡ true
       → chain_of kinds w (place_of side) met p ≡ pick {A = JOut} (eqb n 0) (0, 0, add_four met (word_of p)) (n, p, met)
@@ -198,9 +190,9 @@ module _ (kinds : List ℕ) (w : ℕ → ℕ) (side : Side) (met : List ℕ) (p 
       by true = refl
       by false = refl
 
-  pub verdict-single : single w p ≡ true → (r : Verdict) → r ≡ said kinds w side (n, p, []) → r ≡ (verdict_of side kinds w met p).0
+  pub verdict_single : single w p ≡ true → (r : Result Unit Said) → r ≡ said kinds w side (n, p, []) → r ≡ (verdict_of side kinds w met p).0
   unfolding verdict_of
-  verdict-single e r q = q ∙ sym (ap (λ (j : JOut). said kinds w side j) (one-step e) ∙ by (eqb n 0) refl)
+  verdict_single e r q = q ∙ sym (ap (λ (j : JOut). said kinds w side j) (one-step e) ∙ by (eqb n 0) refl)
     where
       by : (b : Bool) → eqb n 0 ≡ b
           → said kinds w side (pick {A = JOut} b (0, 0, add_four met (word_of p)) (n, p, met)) ≡ said kinds w side (n, p, [])
@@ -209,11 +201,21 @@ module _ (kinds : List ℕ) (w : ℕ → ℕ) (side : Side) (met : List ℕ) (p 
 
 -- the descriptor at the place of a 16, by its four words
 module _ (kinds : List ℕ) (w : ℕ → ℕ) (side : Side) (p k : ℕ) (d : Descriptor) (at-k : k ≡ word_of p) (is : d ≡ desc_at w k) where
-  pub measured-words : Measured w side p → length_fault side d.buffer d.word2 d.word3 ≡ 0
+  pub measured_words : Measured w side p → length_fault side d.buffer d.word2 d.word3 ≡ 0
   unfolding desc_at
-  measured-words m = rw (is, at-k) m.1
+  measured_words m = rw (is, at-k) m.1
 
-  pub buffer_room-words : room_of side kinds (first_byte side d.buffer d.word2 d.word3) (length_of side d.word2)
+  pub buffer_room_words : room_of side kinds (first_byte side d.buffer d.word2 d.word3) (length_of side d.word2)
       ≡ buffer_room kinds w side (word_of p)
   unfolding desc_at buffer_room
-  buffer_room-words = rw (is, at-k) refl
+  buffer_room_words = rw (is, at-k) refl
+
+  -- and with it the answer
+  pub said_barred : (room : Room) → room ≡ room_of side kinds (first_byte side d.buffer d.word2 d.word3) (length_of side d.word2)
+      → Err (record { number = 16; place = p; room = room }) ≡ said kinds w side (16, p, [])
+  said_barred room e = rw (e, buffer_room_words) refl
+
+-- for the check to try: where the leaf hands on, and where a rule answers
+pub ruleset leaves = (fault_of_at, judged_refused, judged_met)
+
+pub ruleset hands = (hand_refused, hand_end, hand_start, hand_middle, hand_buffer, hand_less)

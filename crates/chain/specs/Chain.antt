@@ -7,12 +7,14 @@
 --     place_of side                     where a chain of that side begins
 --     verdict_of side kinds w met p     the same as the answer that is given: with 16, the block that bars the buffer
 --     verdict_number v                  the refusal number of such an answer
+--     told a                            the answer that is given, by its number
 -- The place of a fault: for 12 the bad pointer itself, else the descriptor judged.
 -- w is descriptor memory as a function of the word number. Laws: proofs/ChainLaws.antt. Assumes nothing: these are definitions.
-use Rattle.std.specs.Prelude.{ℕ, ◌+◌, List, eqb}
+use Rattle.std.specs.Prelude.{ℕ, ◌+◌, List, Result, Ok, Err, eqb}
 use Rattle.layout.specs.Choice.{pick, or_else}
 use Rattle.layout.specs.Run.{Next, go, stop, run}
 use Rattle.layout.specs.Layout.{good_ptr, word_of}
+use Rattle.layout.specs.Refusals.{refusal_number}
 use Rattle.layout.specs.declared.Side.{Side}
 use Rattle.layout.specs.declared.Side.TheVariants.{Transmit, Receive}
 use Rattle.words.specs.WordSet.{free_at, add_four, free_count}
@@ -23,8 +25,7 @@ use Rattle.descriptor.specs.Fields.{length_of, first_byte}
 use Rattle.descriptor.specs.Rules.{side_at, flags_fault, length_fault, sum_fault, behind, next_fault}
 use Rattle.descriptor.specs.declared.Place.{Place}
 use Rattle.descriptor.specs.declared.Place.TheVariants.{Start, Buffer}
-use Rattle.chain.specs.declared.Verdict.{Verdict}
-use Rattle.chain.specs.declared.Verdict.TheVariants.{Good, Bad}
+use Rattle.chain.specs.declared.Fault.{Fault}
 
 -- transmit: "16 unless every block touched is Linux's"; receive: "16 unless every block touched is kind 1"
 unfoldable pub block_fault : List ℕ → Side → ℕ → ℕ → ℕ → ℕ
@@ -77,21 +78,32 @@ unfoldable pub buffer_room : List ℕ → (ℕ → ℕ) → Side → ℕ → Roo
 buffer_room kinds w side d =
     room_of side kinds (first_byte side (w (d + 1)) (w (d + 2)) (w (d + 3))) (length_of side (w (d + 2)))
 
+-- a fault by its number
+pub record Said : Type 0 where
+  pub number : ℕ
+  pub place : ℕ
+  pub room : Room
+
 -- the answer: good where no rule is broken, else the number, its place, and with 16 what the blocks say there
-abbrev pub said : List ℕ → (ℕ → ℕ) → Side → JOut → Verdict
+abbrev pub said : List ℕ → (ℕ → ℕ) → Side → JOut → Result Unit Said
 said kinds w side j =
-    pick (eqb j.0 0) Good
-    (Bad (record {
+    pick (eqb j.0 0) (Ok tt)
+    (Err (record {
       number = j.0;
       place = j.1;
       room = pick (eqb j.0 16) (buffer_room kinds w side (word_of j.1)) Free;
     }))
 
-unfoldable pub verdict_of : Side → List ℕ → (ℕ → ℕ) → List ℕ → ℕ → Verdict × List ℕ
+unfoldable pub verdict_of : Side → List ℕ → (ℕ → ℕ) → List ℕ → ℕ → Result Unit Said × List ℕ
 verdict_of side kinds w met p =
     let j = chain_of kinds w (place_of side) met p in
     (said kinds w side j, j.2)
 
-abbrev pub verdict_number : Verdict → ℕ
-verdict_number Good = 0
-verdict_number (Bad f) = f.number
+abbrev pub verdict_number : Result Unit Said → ℕ
+verdict_number (Ok x) = 0
+verdict_number (Err f) = f.number
+
+-- what is answered, by its number
+abbrev pub told : Result Unit Fault → Result Unit Said
+told (Ok x) = Ok tt
+told (Err f) = Err (record { number = refusal_number f.refusal; place = f.place; room = f.room })

@@ -1,10 +1,9 @@
 -- An acknowledgement, told by its address alone. Assumes nothing.
---     cp-at, cp-is   the CP at an offset from the first
 --     cp-class       the class of a CP
 --     address-ack    a write to it is judged by its queue
 --     ack-sound      and that is all where there is nothing to release
-use Rattle.std.proofs.Common.{◌≡◌, ℕ, ◌+◌, ◌*◌, ◌/◌, ◌%◌, ◌<◌, true, false, List, sym, refl, ap, ◌∙◌, zero-add, arith, lt-ltb}
-use Rattle.layout.specs.Layout.{address_end, desc_first, in_descriptors, queues}
+use Rattle.std.proofs.Common.{◌≡◌, ℕ, ◌+◌, ◌<◌, true, false, List, sym, refl, ap, ◌∙◌, zero-add, arith, lt-ltb}
+use Rattle.layout.specs.Layout.{desc_first, in_descriptors, queues}
 use Rattle.layout.specs.Class.{cp_class, rule_of, class_of, class_at}
 use Rattle.layout.proofs.TableLaws.{get_d_tabulate}
 use Rattle.words.specs.Word.{word}
@@ -20,15 +19,6 @@ use Rattle.guard.specs.Guard.{guest_write}
 use Rattle.guard.specs.Rulings.{ruled, cp_address}
 use Rattle.guard.proofs.GivesLaws.{address-class, released-gives, write-sound}
 use Rattle.guard.proofs.ClassLaws.{class-ack}
-
-parts : (s c : ℕ) → s < 2 → ((2 * c + s) % 2 ≡ s) × ((2 * c + s) / 2 ≡ c)
-parts s c h = (omega arith, omega arith)
-
-pub cp-at : (d : ℕ) → d < 64 → d % 4 ≡ 0 → cp_address (2 * (d % 32 / 4) + d / 32) ≡ cp_address 0 + d
-cp-at d h f = omega (arith, parts (d / 32) (d % 32 / 4) (omega arith))
-
-pub cp-is : (a d q : ℕ) → d < 64 → (d + 0x4A10_0A40) % address_end ≡ a → cp_address q ≡ cp_address 0 + d → a ≡ cp_address q
-cp-is a d q h e f = omega arith
 
 cp-class : (q : ℕ) → q < queues → class_at (cp_address q) ≡ cp_class + q
 unfolding class_at class_of rule_of

@@ -1,10 +1,11 @@
 -- A register by the range of its class number, in the form that the arms of `judge_class` cite. Assumes nothing.
 --     class-ack, class-teardown, class-reset, class-zero   the judges; HDP is in GivesLaws
+--     queue_of-side                                        which queue a teardown register names
 --     class-passed, class-unoffered                        those that pass, those not offered
 --     class_low, class-mid, class-past                     what is left is not guarded
-use Rattle.std.proofs.Common.{◌≡◌, ℕ, ◌+◌, ◌-◌, ◌<◌, ◌≤◌, Bool, true, false, eqb, List, sym, refl, ap, ◌∙◌, arith}
+use Rattle.std.proofs.Common.{◌≡◌, ℕ, zero, suc, ◌+◌, ◌-◌, ◌<◌, ◌≤◌, Bool, true, false, eqb, List, sym, refl, ap, ◌∙◌, arith}
 use Rattle.layout.specs.Choice.{pick}
-use Rattle.layout.specs.Layout.{queues}
+use Rattle.layout.specs.Layout.{queues, side_of, queue_of}
 use Rattle.layout.specs.Class.{hdp_class, cp_class, teardown_class, reset_class, passed_class, unoffered_class, unguarded_class}
 use Rattle.registers.specs.Table.{awaiting, set_tearing}
 use Rattle.registers.specs.Rules.{ack_fault, ack_written, tear_queue, teardown_number, reset_number, reset_written, zero_fault}
@@ -19,6 +20,13 @@ use Rattle.guard.specs.Answers.{answer_to, world_at, Gives}
 use Rattle.guard.specs.Judges.{judge_class}
 use Rattle.guard.specs.Rulings.{ruled}
 use Rattle.guard.proofs.GivesLaws.{class-ruled}
+
+-- a teardown register's number past the first is the first queue of its side
+pub queue_of-side : (k : ℕ) → k < 2 → queue_of (side_of k) 0 ≡ k
+unfolding side_of
+queue_of-side zero h = refl
+queue_of-side (suc zero) h = refl
+queue_of-side (suc (suc k)) h = absurd (omega arith)
 
 -- a register whose write changes nothing
 same-ruled : (t : List ℕ) (j : ℕ) → (answer_to Plain j, t) ≡ ruled j t t

@@ -10,13 +10,16 @@
 --     write-refused, write-gives, write-sound   a whole guest write
 --     store_word, store-sound       a store to a free word, where there is nothing to release
 --     state-1, state-2, state-0     1 and 2 as the functions find them
-use Rattle.std.proofs.Common.{◌≡◌, ℕ, ◌+◌, ◌-◌, ◌/◌, ◌%◌, ◌<◌, ◌≤◌, Bool, true, false, not, eqb, ltb, ◌≢◌, List, length, sym, refl, ap, ◌∙◌}
+use Rattle.std.proofs.Common.{◌≡◌, ℕ, ◌+◌, ◌-◌, ◌/◌, ◌%◌, ◌<◌, ◌≤◌, Bool, true, false, not, eqb, ltb, ◌≢◌, List, Some, None, length, sym}
+use Rattle.std.proofs.Common.{refl, ap, ◌∙◌}
 use Rattle.std.proofs.Common.{arith, le-ltb, lt-ltb, eq-eqb, ne_eqb, eqb-true}
 use borrow.Author.Tests.{not-true, not-false}
 use Rattle.layout.specs.Choice.{pick, both}
 use Rattle.layout.specs.Layout.{desc_first, desc_bytes, in_descriptors, queues, side_of, channel_of}
 use Rattle.layout.specs.Class.{class_at, hdp_class}
+use Rattle.layout.specs.Refusals.{refusal_number}
 use Rattle.layout.specs.declared.Side.{Side}
+use Rattle.layout.specs.declared.refusals.Refusal.{Refusal}
 use Rattle.layout.proofs.ChoiceLaws.{clash, both_left, both_right}
 use Rattle.words.specs.Word.{word, put}
 use Rattle.words.specs.WordSet.{has}
@@ -31,14 +34,16 @@ use Rattle.guard.specs.declared.Effect.{Effect}
 use Rattle.guard.specs.declared.Effect.TheVariants.{Plain, Started, Appended}
 use Rattle.guard.specs.declared.Answer.{Answer}
 use Rattle.guard.specs.declared.Answer.TheVariants.{Accepted, Refused}
-use Rattle.guard.specs.declared.Tail.{Tail}
-use Rattle.guard.specs.declared.Tail.TheVariants.{Of, Nobody}
 use Rattle.guard.specs.Answers.{Outcome, accept, refuse, answer_to, world_at, Gives}
 use Rattle.guard.specs.Judges.{judge_start, judge_head, judge_register, tail_in, judge_append, judge_last, judge_word, judge_class}
 use Rattle.guard.specs.Judges.{judge}
 use Rattle.guard.specs.Guard.{state_fault, admitted, guest_write}
 use Rattle.book.proofs.QuietLaws.{release-quiet}
 use Rattle.guard.specs.Rulings.{handed_over, appended, ruled, free_word, plain_store}
+
+-- a refusal has a number of its own
+pub refusal-some : (r : Refusal) → refusal_number r ≢ 0
+refusal-some r = grind arith
 
 -- a choice by a number that was found
 number-yes : {A : Type 0} (n : ℕ) (x y : A) → n ≡ 0 → pick (eqb n 0) x y ≡ x
@@ -54,13 +59,13 @@ pick-false : {A : Type 0} (b : Bool) (x y : A) → b ≡ false → pick b x y �
 pick-false b x y e = rw e refl
 
 -- a register judge that found a fault, and one that wrote
-pub ruled-refused : {n f : ℕ} (t t₁ : List ℕ) → n ≡ f → n ≢ 0 → (Refused n, t) ≡ ruled f t₁ t
+pub ruled-refused : {f : ℕ} (r : Refusal) (t t₁ : List ℕ) → refusal_number r ≡ f → (Refused (refusal_number r), t) ≡ ruled f t₁ t
 unfolding ruled
-ruled-refused {n} t t₁ e h = rw (← e) (sym (number-no n _ _ h))
+ruled-refused r t t₁ e = rw (← e) (sym (number-no (refusal_number r) _ _ (refusal-some r)))
 
-pub ruled-wrote : {n f : ℕ} (t : List ℕ) {t₁ t₂ : List ℕ} → n ≡ f → n ≡ 0 → t₂ ≡ t₁ → (Accepted Plain, t₂) ≡ ruled f t₁ t
+pub ruled-wrote : {f : ℕ} (t : List ℕ) {t₁ t₂ : List ℕ} → 0 ≡ f → t₂ ≡ t₁ → (Accepted Plain, t₂) ≡ ruled f t₁ t
 unfolding ruled
-ruled-wrote {n} t e h w = rw (← e, w) (sym (number-yes n _ _ h))
+ruled-wrote t e w = rw (← e, w) refl
 
 pub answer-refused : {n : ℕ} (e : Effect) → n ≢ 0 → Refused n ≡ answer_to e n
 unfolding answer_to
@@ -82,15 +87,23 @@ gives_as e g = record {
 }
 
 -- what a store to a free word tells
-pub store_word : (w : ℕ → ℕ) (t u : List ℕ) (a : ℕ) {b : Bool} → b ≡ plain_store a w t u → b ≡ true
+store_word : (w : ℕ → ℕ) (t u : List ℕ) (a : ℕ) → plain_store a w t u ≡ true
     → (a % 4 ≡ 0) × (in_descriptors a ≡ true) × (has u ((a - desc_first) / 4) ≡ false) × (quiet w t ≡ true)
 unfolding free_word
-store_word w t u a e h =
-    let p = sym e ∙ h in
+store_word w t u a p =
     let f = both_left (free_word a u) (quiet w t) p in
     let g = both_right (in_descriptors a) _ f in
     let free = not-true _ (both_right (eqb (a % 4) 0) _ g) in
     (eqb-true (a % 4) 0 (both_left _ _ g), both_left (in_descriptors a) _ f, free, both_right (free_word a u) (quiet w t) p)
+
+-- and a word that is one
+pub store-here : (w : ℕ → ℕ) (t u : List ℕ) (a k : ℕ) → in_descriptors a ≡ true → k ≡ (a - desc_first) / 4 → a % 4 ≡ 0 → has u k ≡ false
+    → quiet w t ≡ true
+    → plain_store a w t u ≡ true
+unfolding free_word
+store-here w t u a k i e h n q =
+    let free : has u ((a - desc_first) / 4) ≡ false = ap (has u) (sym e) ∙ n in
+    simp (i, eq-eqb (a % 4) 0 h, free, q)
 
 module _ (m k t u l : List ℕ) where
   abbrev here : World
@@ -101,7 +114,7 @@ module _ (m k t u l : List ℕ) where
 
   -- ---- a start
 
-  module _ (q p : ℕ) {side : Side} {n : ℕ} {x : Uses} (s : side ≡ side_of q) (o : (n, x) ≡ handed_over side k (word m) (u, l) p) where
+  module _ (q p : ℕ) {side : Side} {x : Uses} (s : side ≡ side_of q) {n : ℕ} (o : (n, x) ≡ handed_over side k (word m) (u, l) p) where
     handed : (n, x) ≡ handed_over (side_of q) k (word m) (u, l) p
     handed = o ∙ ap (λ (y : Side). handed_over y k (word m) (u, l) p) s
 
@@ -144,26 +157,26 @@ module _ (m k t u l : List ℕ) where
 
   -- ---- HDP
 
-  module _ (q v : ℕ) {n : ℕ} (e : n ≡ head_number t q v) where
-    pub head-refused : n ≢ 0 → Gives (judge_head q v here) (Refused n) m k t u l
+  module _ (q v : ℕ) where
+    pub head-refused : (r : Refusal) → refusal_number r ≡ head_number t q v → Gives (judge_head q v here) (Refused (refusal_number r)) m k t u l
     unfolding judge_head
-    head-refused h = gives_as (rw (← e) (number-no n _ _ h)) (refused-gives n)
+    head-refused r e = gives_as (rw (← e) (number-no (refusal_number r) _ _ (refusal-some r))) (refused-gives (refusal_number r))
 
-    module _ (h : n ≡ 0) {a : Bool} (f : a ≡ awaiting t) where
+    module _ (e : 0 ≡ head_number t q v) {a : Bool} (f : a ≡ awaiting t) where
       pub head-zeroed : a ≡ true → {t' : List ℕ} → t' ≡ head_written t q v → Gives (judge_head q v here) (Accepted Plain) m k t' u l
       unfolding judge_head
       head-zeroed i w =
-          gives_as (rw (← e, ← f) (number-yes n _ _ h ∙ pick_true a _ _ i))
+          gives_as (rw (← e, ← f) (pick_true a _ _ i))
           (record { answer = refl; mem = refl; kinds = refl; state = w; used = refl; lens = refl })
 
       pub head-busy : a ≡ false → head_of t q ≢ 0 → Gives (judge_head q v here) (Refused 10) m k t u l
       unfolding judge_head
-      head-busy i g = gives_as (rw (← e, ← f) (number-yes n _ _ h ∙ pick-false a _ _ i ∙ number-no (head_of t q) _ _ g)) (refused-gives 10)
+      head-busy i g = gives_as (rw (← e, ← f) (pick-false a _ _ i ∙ number-no (head_of t q) _ _ g)) (refused-gives 10)
 
       pub head-start : a ≡ false → head_of t q ≡ 0 → {r : Answer} {t' u' l' : List ℕ} → Gives (judge_start q v here) r m k t' u' l'
           → Gives (judge_head q v here) r m k t' u' l'
       unfolding judge_head
-      head-start i g c = gives_as (rw (← e, ← f) (number-yes n _ _ h ∙ pick-false a _ _ i ∙ number-yes (head_of t q) _ _ g)) c
+      head-start i g c = gives_as (rw (← e, ← f) (pick-false a _ _ i ∙ number-yes (head_of t q) _ _ g)) c
 
   -- ---- any register
 
@@ -205,10 +218,10 @@ module _ (m k t u l : List ℕ) where
 
   -- ---- an append
 
-  pub last-nobody : (i v : ℕ) {z : Tail} → z ≡ tail_in (word m) i 0 (heads_of t) → z ≡ Nobody
+  pub last-nobody : (i v : ℕ) → None ≡ tail_in (word m) i 0 (heads_of t)
       → Gives (judge_last i v here) (Refused 11) m k t u l
   unfolding judge_last
-  last-nobody i v e f = gives_as (rw (← e, f) refl) (refused-gives 11)
+  last-nobody i v e = gives_as (rw (← e) refl) (refused-gives 11)
 
   append_at : (b : Bool) (j i v : ℕ) (y : Uses) (f : Effect) {n : ℕ} {x : Uses} {m' : List ℕ} {a : Answer} → eqb j 0 ≡ b
       → (n, x, m') ≡ pick {A = ℕ × Uses × List ℕ} b (0, y, put m i v) (j, (u, l), m) → a ≡ answer_to f n
@@ -231,13 +244,13 @@ module _ (m k t u l : List ℕ) where
     lens = ap (λ (z : ℕ × Uses × List ℕ). z.1.1) e;
   }
 
-  pub last-append : (i v : ℕ) {z : Tail} (q : ℕ) → z ≡ tail_in (word m) i 0 (heads_of t) → z ≡ Of q → {side : Side} → side ≡ side_of q
+  pub last-append : (i v : ℕ) (q : ℕ) → Some q ≡ tail_in (word m) i 0 (heads_of t) → {side : Side} → side ≡ side_of q
       → {c : ℕ} → c ≡ channel_of q
       → {n : ℕ} {x : Uses} {m' : List ℕ} → (n, x, m') ≡ appended side k i m (u, l) v → {a : Answer} → a ≡ answer_to (Appended side c) n
       → Gives (judge_last i v here) a m' k t x.0 x.1
   unfolding judge_last judge_append appended
-  last-append i v q e f {side} s {c} h o g =
-      gives_as (rw (← e, f) refl)
+  last-append i v q e {side} s {c} h o g =
+      gives_as (rw (← e) refl)
       (append_at (eqb (chain_of k (word m) (place_of (side_of q)) u v).0 0) _ i v _ (Appended (side_of q) (channel_of q)) refl
       (o ∙ ap (λ (y : Side). appended y k i m (u, l) v) s) (g ∙ rw (s, h) refl))
 
@@ -293,20 +306,20 @@ module _ (m k t u l : List ℕ) where
   refused-at true false n o e h = rw e (refused-gives 2)
   refused-at false g n o e h = rw e (refused-gives 1)
 
-  passed-at : (f g : Bool) (n : ℕ) (o : Outcome) → n ≡ pick f (pick g 0 2) 1 → n ≡ 0
-      → pick (not f) (refuse 1 here) (pick g o (refuse 2 here)) ≡ o
-  passed-at true true n o e h = refl
-  passed-at true false n o e h = absurd (omega arith)
-  passed-at false g n o e h = absurd (omega arith)
+  passed-at : (f g : Bool) (o : Outcome) → ◌≡◌ {A = ℕ} 0 (pick f (pick g 0 2) 1) → pick (not f) (refuse 1 here) (pick g o (refuse 2 here)) ≡ o
+  passed-at true true o e = refl
+  passed-at true false o e = absurd (omega arith)
+  passed-at false g o e = absurd (omega arith)
 
-  module _ (act : World → Outcome) {n : ℕ} (e : n ≡ state_fault m k t u l) where
-    pub admitted-refused : n ≢ 0 → Gives (admitted here act) (Refused n) m k t u l
+  module _ (act : World → Outcome) where
+    pub admitted-refused : (r : Refusal) → refusal_number r ≡ state_fault m k t u l → Gives (admitted here act) (Refused (refusal_number r)) m k t u l
     unfolding admitted state_fault unfit sound_world
-    admitted-refused h = refused-at (fit_parts m k) (sound_book (word m) t u l) n (act (release here)) e h
+    admitted-refused r e =
+        refused-at (fit_parts m k) (sound_book (word m) t u l) (refusal_number r) (act (release here)) e (refusal-some r)
 
-    pub admitted-passed : n ≡ 0 → admitted here act ≡ act (release here)
+    pub admitted-passed : 0 ≡ state_fault m k t u l → admitted here act ≡ act (release here)
     unfolding admitted state_fault unfit sound_world
-    admitted-passed h = passed-at (fit_parts m k) (sound_book (word m) t u l) n (act (release here)) e h
+    admitted-passed e = passed-at (fit_parts m k) (sound_book (word m) t u l) (act (release here)) e
 
   pub admitted-sound : (act : World → Outcome) → unfit here ≡ false → sound_world here ≡ true → admitted here act ≡ act (release here)
   unfolding admitted
@@ -316,24 +329,25 @@ module _ (m k t u l : List ℕ) where
   unfolding unfit fit_parts
   fit-size f = eqb-true (length m) desc_bytes (both_left _ _ (not-false _ f))
 
-  pub zero-size : {n : ℕ} → n ≡ state_fault m k t u l → n ≡ 0 → length m ≡ desc_bytes
+  pub zero-size : 0 ≡ state_fault m k t u l → length m ≡ desc_bytes
   unfolding state_fault fit_parts
-  zero-size {n} e h = at (eqb (length m) desc_bytes) (fit_kinds k) refl e
+  zero-size e = at (eqb (length m) desc_bytes) (fit_kinds k) refl e
     where
-      at : (b c : Bool) → eqb (length m) desc_bytes ≡ b → n ≡ pick (both b c) (pick (sound_book (word m) t u l) 0 2) 1
+      at : (b c : Bool) → eqb (length m) desc_bytes ≡ b → ◌≡◌ {A = ℕ} 0 (pick (both b c) (pick (sound_book (word m) t u l) 0 2) 1)
           → length m ≡ desc_bytes
       at true c x y = eqb-true (length m) desc_bytes x
-      at false c x y = absurd (omega (arith, h, y))
+      at false c x y = absurd (omega arith)
 
-  pub write-refused : (a v : ℕ) {n : ℕ} → n ≡ state_fault m k t u l → n ≢ 0 → Gives (guest_write a v here) (Refused n) m k t u l
+  pub write-refused : (a v : ℕ) (r : Refusal) → refusal_number r ≡ state_fault m k t u l
+      → Gives (guest_write a v here) (Refused (refusal_number r)) m k t u l
   unfolding guest_write
-  write-refused a v e h = admitted-refused (λ s. judge a v s) e h
+  write-refused a v r e = admitted-refused (λ s. judge a v s) r e
 
-  pub write-gives : (a v : ℕ) {n : ℕ} → n ≡ state_fault m k t u l → n ≡ 0 → {r : Answer} {m' t' u' l' : List ℕ}
+  pub write-gives : (a v : ℕ) → 0 ≡ state_fault m k t u l → {r : Answer} {m' t' u' l' : List ℕ}
       → Gives (judge a v (release here)) r m' k t' u' l'
       → Gives (guest_write a v here) r m' k t' u' l'
   unfolding guest_write
-  write-gives a v e h g = gives_as (admitted-passed (λ s. judge a v s) e h) g
+  write-gives a v e g = gives_as (admitted-passed (λ s. judge a v s) e) g
 
   pub write-sound : (a v : ℕ) → unfit here ≡ false → sound_world here ≡ true → {r : Answer} {m' t' u' l' : List ℕ}
       → Gives (judge a v (release here)) r m' k t' u' l'
@@ -343,13 +357,15 @@ module _ (m k t u l : List ℕ) where
 
   -- ---- a store and nothing else
 
-  pub store-sound : (a v : ℕ) → unfit here ≡ false → sound_world here ≡ true → {b : Bool} → b ≡ plain_store a (word m) t u → b ≡ true
-      → {m' : List ℕ} → m' ≡ put m ((a - desc_first) / 4) v → Gives (guest_write a v here) (Accepted Plain) m' k t u l
-  store-sound a v f s e h p =
-      let w = store_word (word m) t u a e h in
+  pub store-sound : (a v : ℕ) → unfit here ≡ false → sound_world here ≡ true → {i : ℕ} → i ≡ (a - desc_first) / 4
+      → plain_store a (word m) t u ≡ true
+      → {m' : List ℕ} → m' ≡ put m i v → Gives (guest_write a v here) (Accepted Plain) m' k t u l
+  store-sound a v f s {i} e h p =
+      let w = store_word (word m) t u a h in
+      let free : has u i ≡ false = ap (has u) e ∙ w.2 in
       write-sound a v f s
       (released-gives a v (release-quiet here w.3)
-      (address_word a v w.0 refl w.1 refl (word-free ((a - desc_first) / 4) v w.2 p)))
+      (address_word a v w.0 refl w.1 e (word-free i v free p)))
 
   -- ---- 1 and 2, as the functions find them
 
@@ -370,3 +386,13 @@ module _ (m k t u l : List ℕ) where
 pub parts-size : (m k : List ℕ) {f : Bool} → f ≡ fit_parts m k → f ≡ true → length m ≡ desc_bytes
 unfolding fit_parts
 parts-size m k e h = eqb-true (length m) desc_bytes (both_left _ _ (sym e ∙ h))
+
+-- ---- descriptor memory by another name
+module _ (m k t u l : List ℕ) (a v : ℕ) {m₁ : List ℕ} {r : Answer} {m' k' t' u' l' : List ℕ} (e : m₁ ≡ m) where
+  pub write-same : Gives (guest_write a v (world_at m₁ k t u l)) r m' k' t' u' l'
+      → Gives (guest_write a v (world_at m k t u l)) r m' k' t' u' l'
+  write-same g = rw (← e) g
+
+  pub released-same : Gives (judge a v (release (world_at m₁ k t u l))) r m' k' t' u' l'
+      → Gives (judge a v (release (world_at m k t u l))) r m' k' t' u' l'
+  released-same g = rw (← e) g

@@ -6,13 +6,16 @@
 --     side_number a          0 none, 1 transmit, 2 receive
 --     channel_number a       the channel on which it started or appended, else 0
 --     Outcome, accept, refuse   an answer and the whole world afterwards
+--     answer_of r            a judge's answer, whose refusal has a name
 --     world_at               a world from what a guard call is handed
 --     Gives o r m k t u l   a call's answer and the tables it leaves are those of the outcome o: the promise of every entry
 -- Assumes nothing: these are definitions.
-use Rattle.std.specs.Prelude.{◌≡◌, ℕ, List, ◌==◌}
+use Rattle.std.specs.Prelude.{◌≡◌, ℕ, List, ◌==◌, Result, Ok, Err}
 use Rattle.layout.specs.Choice.{pick}
+use Rattle.layout.specs.Refusals.{refusal_number}
 use Rattle.layout.specs.declared.Side.{Side}
 use Rattle.layout.specs.declared.Side.TheVariants.{Transmit, Receive}
+use Rattle.layout.specs.declared.refusals.Refusal.{Refusal}
 use Rattle.book.specs.World.{World}
 use Rattle.guard.specs.declared.Effect.{Effect}
 use Rattle.guard.specs.declared.Effect.TheVariants.{Plain, Started, Appended}
@@ -67,6 +70,11 @@ accept e s = record { answer = Accepted e; world = s }
 -- a number as the answer of a write that, without a fault, did e
 unfoldable pub answer_to : Effect → ℕ → Answer
 answer_to e n = pick (n == 0) (Accepted e) (Refused n)
+
+-- what a judge answers, by the number of its refusal
+abbrev pub answer_of : Result Effect Refusal → Answer
+answer_of (Ok e) = Accepted e
+answer_of (Err r) = Refused (refusal_number r)
 
 abbrev pub world_at : List ℕ → List ℕ → List ℕ → List ℕ → List ℕ → World
 world_at m k t u l = record { mem = m; kinds = k; state = t; used = u; lens = l }

@@ -9,7 +9,7 @@
 --     judge_class n v s            a register of class n
 --     judge a v s                 any address, from 3 on
 -- Assumes nothing: these are definitions.
-use Rattle.std.specs.Prelude.{ℕ, zero, suc, ◌+◌, ◌-◌, ◌/◌, ◌%◌, Bool, false, not, List, [], ◌∷◌, ◌==◌, nat_lt}
+use Rattle.std.specs.Prelude.{ℕ, zero, suc, ◌+◌, ◌-◌, ◌/◌, ◌%◌, Bool, false, not, List, [], ◌∷◌, ◌==◌, nat_lt, Option, Some, None}
 use Rattle.layout.specs.Choice.{pick, both}
 use Rattle.layout.specs.Layout.{desc_first, desc_words, good_ptr, word_of, addr, in_descriptors, queues, side_of, channel_of}
 use Rattle.layout.specs.Class.{class_at, hdp_class}
@@ -22,8 +22,6 @@ use Rattle.chain.specs.Chain.{JOut, place_of, chain_of}
 use Rattle.book.specs.HandOver.{taken_from}
 use Rattle.book.specs.World.{World, set_mem, set_state, set_uses}
 use Rattle.guard.specs.declared.Effect.TheVariants.{Plain, Started, Appended}
-use Rattle.guard.specs.declared.Tail.{Tail}
-use Rattle.guard.specs.declared.Tail.TheVariants.{Of, Nobody}
 use Rattle.guard.specs.Answers.{Outcome, accept, refuse}
 
 -- "then the chain, 12 to 17": 13 is asked of the words in use too
@@ -72,9 +70,9 @@ last_of w p = last_from w desc_words p
 unfoldable pub is_last : (ℕ → ℕ) → ℕ → ℕ → Bool
 is_last w head k = pick (good_ptr head) (last_of w head == addr k) false
 
-abbrev pub tail_in : (ℕ → ℕ) → ℕ → ℕ → List ℕ → Tail
-tail_in w k q [] = Nobody
-tail_in w k q (h ∷ hs) = let rest = tail_in w k (q + 1) hs in pick (is_last w h k) (Of q) rest
+abbrev pub tail_in : (ℕ → ℕ) → ℕ → ℕ → List ℕ → Option ℕ
+tail_in w k q [] = None
+tail_in w k q (h ∷ hs) = let rest = tail_in w k (q + 1) hs in pick (is_last w h k) (Some q) rest
 
 -- "An append stores its word and adds words and lengths", "judged as a chain for that side"
 unfoldable pub judge_append : ℕ → ℕ → ℕ → World → Outcome
@@ -86,9 +84,9 @@ judge_append q k p s =
     (refuse j.0 s)
 
 -- an append to the queue that the tail is of
-abbrev pub at_tail : Tail → (ℕ → Outcome) → Outcome → Outcome
-at_tail Nobody f o = o
-at_tail (Of q) f o = f q
+abbrev pub at_tail : Option ℕ → (ℕ → Outcome) → Outcome → Outcome
+at_tail None f o = o
+at_tail (Some q) f o = f q
 
 -- "Word 0 of a queue's last descriptor, now 0, written nonzero: an append, judged as a chain for that side"; else 11
 unfoldable pub judge_last : ℕ → ℕ → World → Outcome

@@ -1,6 +1,5 @@
 -- A kind change, from its parts. Assumes nothing.
---     received-next, received-end   whether a receive buffer touches a block, recorded length by recorded length
---     reception-start, -found, -on  the same from the first on
+--     received-any                  whether a receive buffer touches a block, recorded length by recorded length
 --     touches_none, touches-past    no length is recorded here; the last word begins no descriptor
 --     kind-18 .. kind-0             each number
 --     kind-gives                    the change of one block on a released world
@@ -14,7 +13,11 @@ use native.Mathlib.Omega.{arith}
 use lib.ListN.{length, get_or, set, drop, get_or-eq_default}
 use lib.Dec.{eqb, leb, ltb}
 use borrow.Author.Tests.{eq-eqb, ne_eqb, le-ltb, lt-ltb, le-leb, lt-leb}
+use Rattle.std.proofs.Common.{◌||◌}
+use Rattle.std.specs.List.{list_any, enumerate_from}
 use Rattle.layout.specs.Choice.{pick, both}
+use Rattle.layout.specs.Refusals.{refusal_number}
+use Rattle.layout.specs.declared.refusals.Refusal.{Refusal}
 use Rattle.layout.specs.Layout.{desc_bytes, desc_words, ram_first, block_bytes}
 use Rattle.words.specs.Word.{word_at, word}
 use Rattle.blocks.specs.Room.{touches}
@@ -24,22 +27,19 @@ use Rattle.guard.specs.declared.Answer.{Answer}
 use Rattle.guard.specs.declared.Answer.TheVariants.{Accepted, Refused}
 use Rattle.guard.specs.Answers.{accept, refuse, answer_to, world_at, Gives}
 use Rattle.guard.specs.Guard.{state_fault}
-use Rattle.guard.proofs.GivesLaws.{gives_as, admitted-refused, admitted-passed, admitted-sound}
+use Rattle.guard.proofs.GivesLaws.{refusal-some, gives_as, admitted-refused, admitted-passed, admitted-sound}
 use Rattle.kinds.specs.Kinds.{received, in_reception, kind_number, judge_kind, kind_change}
 use Rattle.kinds.specs.Parts.{kind_outcome}
 
 -- ---- receive buffers
-pub received-next : (w : ℕ → ℕ) (b i j : ℕ) (l : List ℕ) → i < length l
-    → received w j (drop i l) b ≡ pick (touches b (w (j + 1)) (get_or l i 0)) true (received w (j + 1) (drop (suc i) l) b)
-received-next w b i j [] h = absurd (omega arith)
-received-next w b zero j (x ∷ l) h = refl
-received-next w b (suc i) j (x ∷ l) h = received-next w b i j l (omega arith)
-
-pub received-end : (w : ℕ → ℕ) (b i j : ℕ) (l : List ℕ) → length l ≤ i → received w j (drop i l) b ≡ false
-received-end w b zero j [] h = refl
-received-end w b (suc i) j [] h = refl
-received-end w b zero j (x ∷ l) h = absurd (omega arith)
-received-end w b (suc i) j (x ∷ l) h = received-end w b i j l (omega arith)
+pub received-any : (w : ℕ → ℕ) (b k : ℕ) (l : List ℕ)
+    → list_any (λ (p : ℕ × ℕ). touches b (w (p.0 + 1)) p.1) (enumerate_from k l) ≡ received w k l b
+received-any w b k [] = refl
+received-any w b k (x ∷ l) = at (touches b (w (k + 1)) x) (received-any w b (k + 1) l)
+  where
+    at : (t : Bool) {x y : Bool} → x ≡ y → (t || x) ≡ pick t true y
+    at true e = refl
+    at false e = e
 
 pub touches_none : (b lo : ℕ) → touches b lo 0 ≡ false
 unfolding touches
@@ -75,20 +75,6 @@ touching-none b lo n e = sym (rw e (touches_none b lo))
 
 pub touching-is : (b lo lo' n : ℕ) (r : Bool) → r ≡ touches b lo n → lo ≡ lo' → r ≡ touches b lo' n
 touching-is b lo lo' n r e f = rw (← f) e
-
-pub reception-start : (w : ℕ → ℕ) (l : List ℕ) (b : ℕ) → received w 0 (drop 0 l) b ≡ in_reception w l b
-unfolding in_reception
-reception-start w l b = refl
-
-pub reception-found : (w : ℕ → ℕ) (b i : ℕ) (l : List ℕ) → i < length l → touches b (w (i + 1)) (get_or l i 0) ≡ true
-    → received w i (drop i l) b ≡ true
-reception-found w b i l h e = received-next w b i i l h ∙ rw e refl
-
-pub reception-on : (w : ℕ → ℕ) (b i : ℕ) (l : List ℕ) → i < length l → touches b (w (i + 1)) (get_or l i 0) ≡ false
-    → received w (i + 1) (drop (i + 1) l) b ≡ received w i (drop i l) b
-reception-on w b i l h e =
-    let s : i + 1 ≡ suc i = omega arith in
-    sym (received-next w b i i l h ∙ rw (e, s) refl)
 
 -- ---- the numbers
 module _ (b k : ℕ) (w : ℕ → ℕ) (lens kinds : List ℕ) where
@@ -134,14 +120,14 @@ module _ (b k : ℕ) (w : ℕ → ℕ) (lens kinds : List ℕ) where
   unfolding kind_number
   kind-tests e = bounds-at (ltb b (length kinds)) (leb 1 k) (leb k 4) _ e
 
-  pub kind-refused : (n : ℕ) → n ≡ kind_number b k w lens kinds → n ≢ 0 → (n, kinds) ≡ kind_outcome b k w lens kinds
+  pub kind-refused : (r : Refusal) → refusal_number r ≡ kind_number b k w lens kinds
+      → (refusal_number r, kinds) ≡ kind_outcome b k w lens kinds
   unfolding kind_outcome
-  kind-refused n e h = rw (← e, ne_eqb n 0 h) refl
+  kind-refused r e = rw (← e, ne_eqb (refusal_number r) 0 (refusal-some r)) refl
 
-  pub kind-changed : (n : ℕ) (y : List ℕ) → n ≡ kind_number b k w lens kinds → n ≡ 0 → y ≡ set kinds b k
-      → (0, y) ≡ kind_outcome b k w lens kinds
+  pub kind-changed : 0 ≡ kind_number b k w lens kinds → (0, set kinds b k) ≡ kind_outcome b k w lens kinds
   unfolding kind_outcome
-  kind-changed n y e h f = rw (← e, eq-eqb n 0 h, f) refl
+  kind-changed e = rw (← e) refl
 
 answer-refused : (n : ℕ) → eqb n 0 ≡ false → answer_to Plain n ≡ Refused n
 unfolding answer_to
@@ -185,17 +171,22 @@ module _ (m k t u l : List ℕ) where
         → Gives (judge_kind i v (world_at m k t₁ u₁ l₁)) r m k' t' u' l' → Gives (judge_kind i v (release here)) r m k' t' u' l'
     kind-released e g = gives_as (ap (λ (s : World). judge_kind i v s) e) g
 
-    module _ {n : ℕ} (e : n ≡ state_fault m k t u l) where
-      pub change-refused : n ≢ 0 → Gives (kind_change i v here) (Refused n) m k t u l
-      unfolding kind_change
-      change-refused h = admitted-refused m k t u l (λ s. judge_kind i v s) e h
+    pub change-refused : (r : Refusal) → refusal_number r ≡ state_fault m k t u l → Gives (kind_change i v here) (Refused (refusal_number r)) m k t u l
+    unfolding kind_change
+    change-refused r e = admitted-refused m k t u l (λ s. judge_kind i v s) r e
 
-      pub change-gives : n ≡ 0 → {r : Answer} {k' t' u' l' : List ℕ} → Gives (judge_kind i v (release here)) r m k' t' u' l'
-          → Gives (kind_change i v here) r m k' t' u' l'
-      unfolding kind_change
-      change-gives h g = gives_as (admitted-passed m k t u l (λ s. judge_kind i v s) e h) g
+    pub change-gives : 0 ≡ state_fault m k t u l → {r : Answer} {k' t' u' l' : List ℕ} → Gives (judge_kind i v (release here)) r m k' t' u' l'
+        → Gives (kind_change i v here) r m k' t' u' l'
+    unfolding kind_change
+    change-gives e g = gives_as (admitted-passed m k t u l (λ s. judge_kind i v s) e) g
 
     pub change-sound : unfit here ≡ false → sound_world here ≡ true → {r : Answer} {k' t' u' l' : List ℕ}
         → Gives (judge_kind i v (release here)) r m k' t' u' l' → Gives (kind_change i v here) r m k' t' u' l'
     unfolding kind_change
     change-sound f s g = gives_as (admitted-sound m k t u l (λ x. judge_kind i v x) f s) g
+
+-- ---- descriptor memory by another name
+module _ (m k t u l : List ℕ) (b v : ℕ) {m₁ : List ℕ} {r : Answer} {k' t' u' l' : List ℕ} (e : m₁ ≡ m) where
+  pub judge-same : Gives (judge_kind b v (release (world_at m₁ k t u l))) r m₁ k' t' u' l'
+      → Gives (judge_kind b v (release (world_at m k t u l))) r m k' t' u' l'
+  judge-same g = rw (← e) g

@@ -5,117 +5,98 @@
 
 #![tactic(auto)]
 
-ghost use Rattle.std.specs.Prelude.{◌≡◌, true, false, ℕ, ◌+◌, length};
-ghost use Rattle.layout.specs.Layout.{desc_bytes};
+ghost use Rattle.std.specs.Prelude.{◌≡◌, true, false, ◌+◌};
+ghost use Rattle.layout.specs.Refusals.{fault};
 ghost use Rattle.words.specs.Word.{word};
 ghost use Rattle.blocks.specs.Room.{touches};
 ghost use Rattle.book.specs.World.{unfit, sound_world, release};
-ghost use Rattle.guard.specs.Answers.{world_at, Gives};
+ghost use Rattle.guard.specs.Answers.{world_at, Gives, answer_of};
 ghost use Rattle.kinds.specs.Kinds.{in_reception, kind_number, judge_kind, kind_change};
 ghost use Rattle.kinds.specs.Parts.{kind_outcome};
 
 use blocks::touches_block;
 use book::release_book;
-use guard::{Answer, Effect, answer_to, state_fault};
-use layout::{BAD_KIND, DESC_WORDS, IN_RECEPTION, Lengths, NO_BLOCK, NOT_LINUX, Words};
+use guard::{Answer, Effect, state_fault};
+use layout::{DESC_WORDS, Lengths, Memory, Refusal, Words};
 use registers::State;
 use words::word_of;
 
-// The largest kind.
+// The largest kind. Kinds are numbers: an enum of them would be made of one only to be turned into a byte of the table.
 const KIND_MAX: u32 = 4;
 
 // The last word of descriptor memory, at which no descriptor begins.
 const LAST_WORD: usize = DESC_WORDS - 1;
 
 // Whether a receive buffer of the recorded length n, whose descriptor begins at word i, touches block b.
-fn is_touching(m: &[u8], i: usize, n: u16, b: u32) -> bool
-    requires { length m.now ≡ desc_bytes }
+fn is_touching(m: &Memory, i: usize, n: u16, b: u32) -> bool
     ensures { result ≡ touches b (word m.now (i + 1)) n }
 {
+    // Two tests and not `||`, which is compiled to both at each word.
     if n == 0 {
         return false;
     }
     if LAST_WORD <= i {
         return false;
     }
-    touches_block(b, word_of(m, i + 1), n as u32)
+    touches_block(b, word_of(m, i + 1), u32::from(n))
 }
 
 // Whether a receive buffer in the book, at its handed-over length, touches block b.
-fn in_reception(m: &[u8], lens: &[u16], b: u32) -> bool
-    requires { length m.now ≡ desc_bytes }
+fn in_reception(m: &Memory, lens: &[u16], b: u32) -> bool
     ensures { result ≡ in_reception (word m.now) lens.now b }
 {
-    let mut i: usize = 0;
-    while i < lens.len() {
-        if is_touching(m, i, lens[i], b) {
-            return true;
-        }
-        i += 1;
-    }
-    false
+    lens.iter()
+        .enumerate()
+        .any(|(i, n)| is_touching(m, i, *n, b))
 }
 
-// 18 to 21 for the change of block b to kind k, or 0.
-fn kind_fault(b: u32, k: u32, m: &[u8], kinds: &[u8], lens: &Lengths) -> u8
-    requires { length m.now ≡ desc_bytes }
-    ensures { result ≡ kind_number b k (word m.now) lens.now kinds.now }
+// 18 to 21 for the change of block b to kind k.
+#[tactic(auto, unfolding(crate::specs::Kinds::kind_number))]
+fn kind_fault(b: u32, k: u32, m: &Memory, kinds: &[u8], lens: &Lengths) -> Result<(), Refusal>
+    ensures { fault result ≡ kind_number b k (word m.now) lens.now kinds.now }
 {
-    let at = b as usize;
-    if kinds.len() <= at {
-        return NO_BLOCK;
+    let Some(&now) = kinds.get(b as usize) else {
+        return Err(Refusal::NoBlock);
+    };
+    if k < 1 || KIND_MAX < k {
+        return Err(Refusal::BadKind);
     }
-    if k < 1 {
-        return BAD_KIND;
+    if now == 0 {
+        return Err(Refusal::NotLinux);
     }
-    if KIND_MAX < k {
-        return BAD_KIND;
+    if k != 1 && in_reception(m, lens, b) {
+        return Err(Refusal::InReception);
     }
-    if kinds[at] == 0 {
-        return NOT_LINUX;
-    }
-    if k == 1 {
-        return 0;
-    }
-    if in_reception(m, lens, b) {
-        return IN_RECEPTION;
-    }
-    0
+    Ok(())
 }
 
-// The change of block b to kind k: refused by its number, or made.
-fn change_block(b: u32, k: u32, m: &[u8], kinds: &mut [u8], lens: &Lengths) -> u8
-    requires { length m.now ≡ desc_bytes }
-    ensures { (result, kinds.new) ≡ kind_outcome b k (word m.now) lens.now kinds.old }
+// The change of block b to kind k: refused, or made.
+fn change_block(b: u32, k: u32, m: &Memory, kinds: &mut [u8], lens: &Lengths) -> Result<(), Refusal>
+    ensures { (fault result, kinds.new) ≡ kind_outcome b k (word m.now) lens.now kinds.old }
 {
-    let n = kind_fault(b, k, m, kinds, lens);
-    if n != 0 {
-        return n;
-    }
-    let at = b as usize;
-    kinds[at] = k as u8;
-    0
+    kind_fault(b, k, m, kinds, lens)?;
+    kinds[b as usize] = k as u8;
+    Ok(())
 }
 
 // The release, then the change.
 fn change_released(
     block: u32,
     kind: u32,
-    m: &[u8],
+    m: &Memory,
     kinds: &mut [u8],
     t: &mut State,
     used: &mut Words,
     lens: &mut Lengths,
-) -> Answer
-    requires { length m.now ≡ desc_bytes }
+) -> Result<Effect, Refusal>
     ensures { Gives
         (judge_kind block kind
-        (release (world_at m.now kinds.old t.old used.old lens.old))) result
+        (release (world_at m.now kinds.old t.old used.old lens.old))) (answer_of result)
         m.now kinds.new t.new used.new lens.new }
 {
     release_book(m, t, used, lens);
-    let n = change_block(block, kind, m, kinds, lens);
-    answer_to(Effect::Plain, n)
+    change_block(block, kind, m, kinds, lens)?;
+    Ok(Effect::Plain)
 }
 
 // A kind change on a state that is known to be fit and sound.
@@ -134,7 +115,7 @@ pub fn kind_change_sound(
         (kind_change block kind (world_at m.now kinds.old t.old used.old lens.old)) result
         m.now kinds.new t.new used.new lens.new }
 {
-    change_released(block, kind, m, kinds, t, used, lens)
+    change_released(block, kind, m.as_array().unwrap(), kinds, t, used, lens).into()
 }
 
 // The change of a block's kind, on any state: unfit 1, unsound 2.
@@ -151,9 +132,8 @@ pub fn kind_change(
         (kind_change block kind (world_at m.now kinds.old t.old used.old lens.old)) result
         m.now kinds.new t.new used.new lens.new }
 {
-    let n = state_fault(m, kinds, t, used, lens);
-    if n != 0 {
-        return Answer::Refused(n);
+    if let Err(f) = state_fault(m, kinds, t, used, lens) {
+        return Answer::Refused(f.into());
     }
-    change_released(block, kind, m, kinds, t, used, lens)
+    change_released(block, kind, m.as_array().unwrap(), kinds, t, used, lens).into()
 }

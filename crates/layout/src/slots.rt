@@ -14,10 +14,10 @@ pub struct Slot {
 pub fn slot_at(p: u32) -> Option<Slot>
     ensures { MatchOption result (good_ptr p ≡ false) (λ d. (good_ptr p ≡ true) × (d.word ≡ word_of p)) }
 {
-    if !crate::is_good(p) {
-        return None;
+    let word = crate::descriptor_word(p);
+    if word <= crate::LAST_DESCRIPTOR {
+        Some(Slot { word })
+    } else {
+        None
     }
-    Some(Slot {
-        word: crate::word_number(p),
-    })
 }

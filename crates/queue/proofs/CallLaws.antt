@@ -19,6 +19,7 @@ use lib.ListN.{length, get_or, replicate}
 use lib.Seq.{length-take-le}
 use lib.Dec.{eqb, leb, ltb}
 use borrow.Author.Tests.{eq-eqb, eqb-true, ltb-true, leb-true}
+use Rattle.std.specs.Prelude.{Option, Some, None}
 use Rattle.layout.specs.Choice.{pick, both}
 use Rattle.layout.specs.Layout.{desc_first, desc_bytes, in_descriptors, queues, side_of}
 use Rattle.layout.specs.Class.{class_at, hdp_class, cp_class, teardown_class, reset_class, passed_class, unoffered_class, unguarded_class}
@@ -46,8 +47,6 @@ use Rattle.book.specs.HandOver.{taken_from}
 use Rattle.book.specs.Release.{released_all, release_mode, with_heads}
 use Rattle.book.specs.World.{World, set_mem, set_state, set_uses, fit_parts, unfit, sound_book, sound_world, release}
 use Rattle.guard.specs.declared.Answer.{Answer}
-use Rattle.guard.specs.declared.Tail.{Tail}
-use Rattle.guard.specs.declared.Tail.TheVariants.{Of, Nobody}
 use Rattle.guard.specs.Answers.{Outcome, refuse, world_at, Gives}
 use Rattle.guard.specs.Judges.{judge_chain, started, judge_head, judge_register, is_last, tail_in, judge_append, at_tail, judge_last}
 use Rattle.guard.specs.Judges.{judge_word}
@@ -274,9 +273,9 @@ module _ (s : World) (h : Held s) where
   unfolding judge_last
   last-held k v = at (tail_in (word s.mem) k 0 (heads_of s.state)) refl
     where
-      at : (t : Tail) → tail_in (word s.mem) k 0 (heads_of s.state) ≡ t → Leaves (at_tail t (λ q. judge_append q k v s) (refuse 11 s))
-      at Nobody e = h
-      at (Of q) e = judge-append-held q k v (tail-yes (word s.mem) k (heads_of s.state) q e)
+      at : (t : Option ℕ) → tail_in (word s.mem) k 0 (heads_of s.state) ≡ t → Leaves (at_tail t (λ q. judge_append q k v s) (refuse 11 s))
+      at None e = h
+      at (Some q) e = judge-append-held q k v (tail-yes (word s.mem) k (heads_of s.state) q e)
 
   word_held : (k v : ℕ) → Leaves (judge_word k v s)
   unfolding judge_word

@@ -14,13 +14,12 @@ use mathlib.Core.Bool.{Bool, true, false}
 use mathlib.Core.List.{List, [], ◌∷◌, ◌++◌}
 use native.Mathlib.Omega.{arith}
 use lib.ListN.{length, length-append}
+use Rattle.std.specs.Prelude.{None, Some}
 use Rattle.layout.specs.Choice.{pick}
 use Rattle.descriptor.specs.Fields.{eop, owner, eoq, td}
 use Rattle.book.specs.declared.Mode.{Mode}
 use Rattle.book.specs.declared.Mode.TheVariants.{Head, Packet, All as Whole}
-use Rattle.book.specs.declared.Plan.{Plan}
-use Rattle.book.specs.declared.Plan.TheVariants.{Keep, Drop}
-use Rattle.book.specs.Release.{through, plan}
+use Rattle.book.specs.Release.{Plan, through, plan}
 use Rattle.queue.proofs.Queue.{All, Linked, carry, kept, gone, kept_all, gone_all, LinkedAll}
 use Rattle.queue.proofs.LinkLaws.{all-every, linked-right}
 
@@ -43,8 +42,8 @@ gone-kept w n (d ∷ ds) = at (plan n (w (d + 3))) (λ k. gone-kept w k ds)
   where
     at : (p : Plan) → ((k : Mode) → gone w k ds ++ kept w k ds ≡ ds)
         → carry p [] (λ k. d ∷ gone w k ds) ++ carry p (d ∷ ds) (λ k. kept w k ds) ≡ d ∷ ds
-    at Keep h = refl
-    at (Drop k) h = ap (λ (l : List ℕ). d ∷ l) (h k)
+    at None h = refl
+    at (Some k) h = ap (λ (l : List ℕ). d ∷ l) (h k)
 
 pub kept-linked : (w : ℕ → ℕ) (n : Mode) (ds : List ℕ) → Linked w ds → Linked w (kept w n ds)
 kept-linked w n ds l = linked-right w (gone w n ds) (kept w n ds) (rw (gone-kept w n ds) l)
@@ -58,8 +57,8 @@ kept-agree w v n [] a = refl
 kept-agree w v n (d ∷ ds) a = rw a.0 (at (plan n (w (d + 3))) (λ k. kept-agree w v k ds a.1))
   where
     at : (p : Plan) → ((k : Mode) → kept v k ds ≡ kept w k ds) → carry p (d ∷ ds) (λ k. kept v k ds) ≡ carry p (d ∷ ds) (λ k. kept w k ds)
-    at Keep h = refl
-    at (Drop k) h = h k
+    at None h = refl
+    at (Some k) h = h k
 
 -- ---- where it stops, and where all goes
 
@@ -81,15 +80,15 @@ kept-torn w d ds t = rw t (kept_whole w ds)
 -- ---- absorption
 
 -- only a head is kept
-through-goes : (x : ℕ) → through x ≡ Keep → ⊥
+through-goes : (x : ℕ) → through x ≡ None → ⊥
 through-goes x e = at (eop x) (eoq x) e
   where
-    at : (a b : Bool) → pick {A = Plan} a (pick b (Drop Whole) (Drop Head)) (Drop Packet) ≡ Keep → ⊥
+    at : (a b : Bool) → pick {A = Plan} a (pick b (Some Whole) (Some Head)) (Some Packet) ≡ None → ⊥
     at true true e = let z : ◌≡◌ {A = ℕ} 0 1 = cc in omega arith
     at true false e = let z : ◌≡◌ {A = ℕ} 0 1 = cc in omega arith
     at false b e = let z : ◌≡◌ {A = ℕ} 0 1 = cc in omega arith
 
-keep-head : (n : Mode) (x : ℕ) → plan n x ≡ Keep → n ≡ Head
+keep-head : (n : Mode) (x : ℕ) → plan n x ≡ None → n ≡ Head
 unfolding plan
 keep-head Head x e = refl
 keep-head Packet x e = absurd (through-goes x e)
@@ -102,8 +101,8 @@ kept-kept w v n (d ∷ ds) a = at n (plan n (w (d + 3))) refl a (λ k. kept-kept
     at : (n : Mode) (p : Plan) → plan n (w (d + 3)) ≡ p → All (Flags w v) (carry p [] (λ k. d ∷ gone w k ds))
         → ((k : Mode) → All (Flags w v) (gone w k ds) → kept v k ds ≡ kept v Head (kept w k ds))
         → carry (plan n (v (d + 3))) (d ∷ ds) (λ k. kept v k ds) ≡ kept v Head (carry p (d ∷ ds) (λ k. kept w k ds))
-    at n (Drop k) e b h = rw (b.0, e) (h k b.1)
-    at n Keep e b h = rw (keep-head n _ e) refl
+    at n (Some k) e b h = rw (b.0, e) (h k b.1)
+    at n None e b h = rw (keep-head n _ e) refl
 
 pub kept_again : (w : ℕ → ℕ) (n : Mode) (ds : List ℕ) → kept w Head (kept w n ds) ≡ kept w n ds
 kept_again w n ds = sym (kept-kept w w n ds (all-every (Flags w w) (λ d. refl) (gone w n ds)))
@@ -133,7 +132,7 @@ pub kept-packet : (w : ℕ → ℕ) (cs : List ℕ) (d : ℕ) (rs : List ℕ) �
 unfolding plan
 kept-packet w [] d rs a e = rw e (at (eoq (w (d + 3))))
   where
-    at : (b : Bool) → carry (pick b (Drop Whole) (Drop Head)) (d ∷ rs) (λ k. kept w k rs) ≡ pick b [] (kept w Head rs)
+    at : (b : Bool) → carry (pick b (Some Whole) (Some Head)) (d ∷ rs) (λ k. kept w k rs) ≡ pick b [] (kept w Head rs)
     at true = kept_whole w rs
     at false = refl
 kept-packet w (c ∷ cs) d rs a e = rw a.0 (kept-packet w cs d rs a.1 e)

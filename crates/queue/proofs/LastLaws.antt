@@ -11,13 +11,13 @@ use native.Mathlib.Omega.{arith}
 use lib.ListN.{length, get_or, length-append}
 use lib.Dec.{eqb}
 use borrow.Author.Tests.{eqb-true}
+use Rattle.std.specs.Prelude.{Some}
 use Rattle.layout.specs.Choice.{pick}
 use Rattle.layout.specs.Layout.{good_ptr, addr, desc_words}
 use Rattle.layout.proofs.ChoiceLaws.{clash}
 use Rattle.layout.proofs.PointerLaws.{good_ptr-addr, word_of-addr, good_ptr-zero}
 use Rattle.words.specs.WordSet.{words_in_use, drop_four}
 use Rattle.words.proofs.SetLaws.{words_in_use-falls, words_in_use-le, has-true}
-use Rattle.guard.specs.declared.Tail.TheVariants.{Of}
 use Rattle.guard.specs.Judges.{last_from, last_of, is_last, tail_in}
 use Rattle.queue.proofs.Queue.{start, Linked, Sole}
 use Rattle.queue.proofs.SoleLaws.{sole-has, sole-drop}
@@ -92,18 +92,18 @@ record Found (w : ℕ → ℕ) (k n : ℕ) (hs : List ℕ) (q : ℕ) : Type 0 wh
   pub few : past < length hs
   pub last : is_last w (get_or hs past 0) k ≡ true
 
-tail_from : (w : ℕ → ℕ) (k n : ℕ) (hs : List ℕ) (q : ℕ) → tail_in w k n hs ≡ Of q → Found w k n hs q
+tail_from : (w : ℕ → ℕ) (k n : ℕ) (hs : List ℕ) (q : ℕ) → tail_in w k n hs ≡ Some q → Found w k n hs q
 tail_from w k n [] q e = let z : ◌≡◌ {A = ℕ} 0 1 = cc in absurd (omega arith)
 tail_from w k n (h ∷ hs) q e = at (is_last w h k) refl e (tail_from w k (n + 1) hs q)
   where
-    at : (b : Bool) → is_last w h k ≡ b → pick b (Of n) (tail_in w k (n + 1) hs) ≡ Of q
-        → (tail_in w k (n + 1) hs ≡ Of q → Found w k (n + 1) hs q)
+    at : (b : Bool) → is_last w h k ≡ b → pick b (Some n) (tail_in w k (n + 1) hs) ≡ Some q
+        → (tail_in w k (n + 1) hs ≡ Some q → Found w k (n + 1) hs q)
         → Found w k n (h ∷ hs) q
     at true t e f = let z : q ≡ n = cc in record { past = 0; number = omega arith; few = omega arith; last = t }
     at false t e f = let r = f e in
         record { past = suc r.past; number = omega (arith, r.number); few = omega (arith, r.few); last = r.last }
 
-pub tail-yes : (w : ℕ → ℕ) (k : ℕ) (hs : List ℕ) (q : ℕ) → tail_in w k 0 hs ≡ Of q → (q < length hs) × (is_last w (get_or hs q 0) k ≡ true)
+pub tail-yes : (w : ℕ → ℕ) (k : ℕ) (hs : List ℕ) (q : ℕ) → tail_in w k 0 hs ≡ Some q → (q < length hs) × (is_last w (get_or hs q 0) k ≡ true)
 tail-yes w k hs q e =
     let r = tail_from w k 0 hs q e in
     let z : r.past ≡ q = omega (arith, r.number) in

@@ -23,6 +23,7 @@ use mathlib.Core.Bool.{Bool, true}
 use mathlib.Core.List.{List, [], ◌∷◌, ◌++◌}
 use lib.ListN.{length, get_or}
 use lib.Dec.{leb, ltb}
+use Rattle.std.specs.Prelude.{None, Some}
 use Rattle.layout.specs.Choice.{pick, both}
 use Rattle.layout.specs.Layout.{desc_words, length_max, addr}
 use Rattle.layout.specs.declared.Side.{Side}
@@ -33,10 +34,8 @@ use Rattle.descriptor.specs.Fields.{length_of, first_byte}
 use Rattle.descriptor.specs.Rules.{own_fault, behind, ends_at}
 use Rattle.descriptor.specs.declared.Place.{Place}
 use Rattle.book.specs.declared.Mode.{Mode}
-use Rattle.book.specs.declared.Plan.{Plan}
-use Rattle.book.specs.declared.Plan.TheVariants.{Keep, Drop}
 use Rattle.book.specs.HandOver.{Uses, take_one, drop_one}
-use Rattle.book.specs.Release.{plan}
+use Rattle.book.specs.Release.{Plan, plan}
 
 -- ---- lists of descriptors
 
@@ -106,8 +105,8 @@ LinkedAll w (q ∷ qs) = Linked w q × LinkedAll w qs
 -- ---- the release over the list: the plan is the one that the release over pointers follows
 
 abbrev pub carry : {A : Type 0} → Plan → A → (Mode → A) → A
-carry Keep x f = x
-carry (Drop mode) x f = f mode
+carry None x f = x
+carry (Some mode) x f = f mode
 
 abbrev pub kept : (ℕ → ℕ) → Mode → List ℕ → List ℕ
 kept w mode [] = []

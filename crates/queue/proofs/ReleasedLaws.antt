@@ -11,15 +11,14 @@ use mathlib.Core.List.{List, [], ◌∷◌, ◌++◌, append_assoc, append-nil}
 use mathlib.Core.Logic.{◌≢◌}
 use native.Mathlib.Omega.{arith}
 use lib.ListN.{get_or}
+use Rattle.std.specs.declared.option.Option.TheVariants as Plans
 use Rattle.layout.specs.Run.{after}
 use Rattle.layout.specs.Layout.{addr}
 use Rattle.layout.proofs.PointerLaws.{good_ptr-addr, word_of-addr, good_ptr-zero}
 use Rattle.book.specs.declared.Mode.{Mode}
 use Rattle.book.specs.declared.Mode.TheVariants.{Head}
-use Rattle.book.specs.declared.Plan.{Plan}
-use Rattle.book.specs.declared.Plan.TheVariants.{Keep, Drop}
 use Rattle.book.specs.HandOver.{Uses, drop_one}
-use Rattle.book.specs.Release.{plan, planned, release_step, released_from, released_all}
+use Rattle.book.specs.Release.{Plan, plan, planned, release_step, released_from, released_all}
 use Rattle.book.proofs.ReleaseLaws.{released-eq}
 use Rattle.queue.proofs.Queue.{start, All, Linked, LinkedAll, count, Sole, Recorded, flat, starts, receiving, carry, kept, gone}
 use Rattle.queue.proofs.Queue.{kept_all, gone_all, drop_all}
@@ -43,8 +42,8 @@ released-list w n (d ∷ ds) rs u l s =
         → ((k : Mode) → released_from w (drop_one u d) (start ds) k ≡ (start (kept w k ds), drop_all (drop_one u d) (gone w k ds)))
         → after (planned q u (addr d) (start ds)) (λ t. released_from w t.0 t.1 t.2)
         ≡ (start (carry q (d ∷ ds) (λ k. kept w k ds)), drop_all u (carry q [] (λ k. d ∷ gone w k ds)))
-    at Keep f = refl
-    at (Drop k) f = rw (word_of-addr d) (f k)
+    at Plans.None f = refl
+    at (Plans.Some k) f = rw (word_of-addr d) (f k)
 
 -- ---- all queues
 

@@ -18,6 +18,7 @@ use lib.ListN.{length, get_or, set, length-set}
 use lib.Seq.{get_or-set_same, get_or-set_other}
 use lib.Dec.{eqb, ltb}
 use borrow.Author.Tests.{eq-eqb, eqb-true, eqb-false, ltb-true}
+use Rattle.std.specs.Prelude.{Option, Some, None}
 use Rattle.layout.specs.Choice.{pick, both}
 use Rattle.layout.specs.Bits.{set_bit}
 use Rattle.layout.specs.Layout.{desc_first, desc_bytes, in_descriptors, queues, side_of}
@@ -36,8 +37,6 @@ use Rattle.book.specs.World.{World, set_state}
 use Rattle.queue.proofs.NumberLaws.{each}
 use Rattle.queue.proofs.CallLaws.{by_class-both}
 use Rattle.guard.specs.declared.Effect.TheVariants.{Plain}
-use Rattle.guard.specs.declared.Tail.{Tail}
-use Rattle.guard.specs.declared.Tail.TheVariants.{Of, Nobody}
 use Rattle.guard.specs.Answers.{number_of, Outcome, accept, refuse}
 use Rattle.guard.specs.Judges.{judge_chain, judge_start, judge_head, judge_register, tail_in, judge_append, at_tail, judge_last, judge_word}
 use Rattle.guard.specs.Judges.{judge_class, judge}
@@ -185,9 +184,9 @@ last_stored : (k v : ℕ) (s : World) → Stored k v s (judge_last k v s)
 unfolding judge_last
 last_stored k v s = at (tail_in (word s.mem) k 0 (heads_of s.state))
   where
-    at : (t : Tail) → Stored k v s (at_tail t (λ q. judge_append q k v s) (refuse 11 s))
-    at Nobody = refuse-stored k v s 11 (omega arith)
-    at (Of q) = append-stored q k v s
+    at : (t : Option ℕ) → Stored k v s (at_tail t (λ q. judge_append q k v s) (refuse 11 s))
+    at None = refuse-stored k v s 11 (omega arith)
+    at (Some q) = append-stored q k v s
 
 word-stored : (k v : ℕ) (s : World) → Stored k v s (judge_word k v s)
 unfolding judge_word

@@ -16,6 +16,7 @@ use native.Mathlib.Omega.{arith}
 use lib.ListN.{length, get_or}
 use lib.Dec.{eqb, ltb, leb}
 use borrow.Author.Tests.{ltb-true, ltb-false}
+use Rattle.std.specs.Prelude.{Option, Some, None}
 use Rattle.layout.specs.Choice.{pick, both, or_else}
 use Rattle.layout.specs.Run.{Next, go, stop, after, run_for, run}
 use Rattle.layout.specs.Layout.{desc_first, address_end, good_ptr, word_of, in_descriptors, channels, queues, side_of}
@@ -47,8 +48,6 @@ use Rattle.guard.specs.declared.Effect.{Effect}
 use Rattle.guard.specs.Answers.{number_of, Outcome, accept, refuse}
 use Rattle.guard.specs.Judges.{judge_chain, judge_start, judge_head, judge_register, tail_in, judge_append, at_tail, judge_last, judge_word}
 use Rattle.guard.specs.Judges.{judge_class, judge}
-use Rattle.guard.specs.declared.Tail.{Tail}
-use Rattle.guard.specs.declared.Tail.TheVariants.{Of, Nobody}
 use Rattle.guard.specs.Guard.{admitted, guest_write}
 use Rattle.kinds.specs.Kinds.{in_reception, kind_number, judge_kind, kind_change}
 use Rattle.safety.specs.Follows.{refusals, is_in, Refuses, Number, Untouched}
@@ -264,9 +263,9 @@ last-verdict : (k v : ℕ) (s : World) → Verdict s (judge_last k v s)
 unfolding judge_last
 last-verdict k v s = at (tail_in (word s.mem) k 0 (heads_of s.state))
   where
-    at : (t : Tail) → Verdict s (at_tail t (λ q. judge_append q k v s) (refuse 11 s))
-    at Nobody = refused s 11 refl
-    at (Of q) = append-verdict q k v s
+    at : (t : Option ℕ) → Verdict s (at_tail t (λ q. judge_append q k v s) (refuse 11 s))
+    at None = refused s 11 refl
+    at (Some q) = append-verdict q k v s
 
 word-verdict : (k v : ℕ) (s : World) → Verdict s (judge_word k v s)
 unfolding judge_word

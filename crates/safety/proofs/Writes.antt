@@ -14,6 +14,7 @@ use native.Mathlib.Omega.{arith}
 use lib.ListN.{length, get_or, length-take}
 use lib.Dec.{eqb}
 use borrow.Author.Tests.{eq-eqb, ne_eqb}
+use Rattle.std.specs.Prelude.{Option, Some, None}
 use Rattle.layout.specs.Choice.{pick, both}
 use Rattle.layout.specs.Layout.{desc_first, in_descriptors, queues, side_of, channel_of}
 use Rattle.words.specs.Word.{put}
@@ -26,8 +27,6 @@ use Rattle.book.specs.World.{World, set_mem, set_uses}
 use Rattle.queue.proofs.LastLaws.{tail-yes}
 use Rattle.guard.specs.declared.Effect.{Effect}
 use Rattle.guard.specs.declared.Effect.TheVariants.{Plain, Appended}
-use Rattle.guard.specs.declared.Tail.{Tail}
-use Rattle.guard.specs.declared.Tail.TheVariants.{Of, Nobody}
 use Rattle.guard.specs.Answers.{Outcome, number_of, accept, refuse}
 use Rattle.guard.specs.Judges.{judge_chain, is_last, tail_in, judge_append, at_tail, judge_last, judge_word}
 use Rattle.controller.specs.Controller.{StepDone, answer, unguarded_write}
@@ -100,10 +99,10 @@ module _ (a v : ℕ) (small : v < 2 ^ 32) (s : Machine) (c : Calm s) (whole : eq
   unfolding judge_last
   last-passes = at (tail_in (words_of s) k 0 (heads_of s.state)) refl
     where
-      at : (t : Tail) → tail_in (words_of s) k 0 (heads_of s.state) ≡ t
+      at : (t : Option ℕ) → tail_in (words_of s) k 0 (heads_of s.state) ≡ t
           → Passes a v s (at_tail t (λ q. judge_append q k v (book_of s)) (refuse 11 (book_of s)))
-      at Nobody e = passes-refuse a v s 11 (book_of s) (omega arith)
-      at (Of q) e = let f = tail-yes (words_of s) k (heads_of s.state) q e in append-passes q f.0 f.1
+      at None e = passes-refuse a v s 11 (book_of s) (omega arith)
+      at (Some q) e = let f = tail-yes (words_of s) k (heads_of s.state) q e in append-passes q f.0 f.1
 
   pub word-passes : Passes a v s (judge_word k v (book_of s))
   unfolding judge_word

@@ -1,10 +1,8 @@
 -- A walk that takes four away for each descriptor: one step, and the recursion. Assumes nothing.
 --     spend_step-falls   each step leaves less
 --     spent-eq          the recursion equation: one step, and then the walk from where it goes
---     spend-end, -bad, -few, -no, -on   one step, as the calls tell it: at 0, at a pointer that is not good, with fewer than four
---                       left, where the descriptor is not as asked, else
---     spent-hop, spent-less   recursion and measure, as a function tells them that handles one descriptor
 --     spent-end         from 0 nothing is taken away
+--     spent-on, -over, -falls   one step told: the walk goes on, with less left, or it is over
 use Prim.Native.Nat.{ℕ, ◌-◌, ◌≤◌, ◌<◌}
 use mathlib.Core.Path.{◌≡◌, refl, ap, ◌∙◌, sym}
 use mathlib.Core.Bool.{Bool, true, false}
@@ -19,10 +17,7 @@ use Rattle.layout.specs.Layout.{good_ptr, word_of}
 use Rattle.layout.proofs.ChoiceLaws.{both_left, both_right}
 use Rattle.layout.proofs.RunLaws.{run-eq, told-on, told-less}
 use Rattle.words.specs.WordSet.{add_four}
-use Rattle.soundness.specs.declared.Hop.{Hop}
-use Rattle.soundness.specs.declared.Hop.TheVariants.{Go}
 use Rattle.soundness.specs.Spent.{SSt, SOut, lost, spend_step, spent_from}
-use Rattle.soundness.specs.Hops.{spent}
 
 module _ (w : ℕ → ℕ) (ask : List ℕ → ℕ → Bool) where
   falls_at : (a b : Bool) (s : SSt) (x : SSt) (t : SSt) → (b ≡ true → 4 ≤ s.2) → x.2 ≡ s.2 - 4
@@ -53,32 +48,13 @@ module _ (w : ℕ → ℕ) (ask : List ℕ → ℕ → Bool) where
     spent-end e =
         spent-eq s p left ∙ ap (λ (x : Next SSt SOut). after x (λ t. spent_from w ask t.0 t.1 t.2)) (sym (spend-end e))
 
-    module _ (n : p ≢ 0) where
-      pub spend-bad : good_ptr p ≡ false → stop (lost, s) ≡ spend_step w ask (s, p, left)
-      unfolding spend_step
-      spend-bad g = simp (ne_eqb p 0 n, g)
+    -- one step told: the walk goes on, with less left, or it is over
+    pub spent-on : {v : List ℕ} {next rest : ℕ} → go (v, next, rest) ≡ spend_step w ask (s, p, left)
+        → spent_from w ask v next rest ≡ spent_from w ask s p left
+    spent-on e = sym (spent-eq s p left ∙ ap (λ (x : Next SSt SOut). after x (λ t. spent_from w ask t.0 t.1 t.2)) (sym e))
 
-      module _ (g : good_ptr p ≡ true) where
-        pub spend-few : left < 4 → stop (lost, s) ≡ spend_step w ask (s, p, left)
-        unfolding spend_step
-        spend-few h = simp (ne_eqb p 0 n, g, lt-leb 4 left h)
+    pub spent-over : {o : SOut} → stop o ≡ spend_step w ask (s, p, left) → o ≡ spent_from w ask s p left
+    spent-over e = sym (spent-eq s p left ∙ ap (λ (x : Next SSt SOut). after x (λ t. spent_from w ask t.0 t.1 t.2)) (sym e))
 
-        module _ (h : 4 ≤ left) {d : ℕ} (at : d ≡ word_of p) where
-          pub spend-no : ask s d ≡ false → stop (lost, s) ≡ spend_step w ask (s, p, left)
-          unfolding spend_step
-          spend-no a = simp (ne_eqb p 0 n, g, le-leb 4 left h, ← at, a)
-
-          pub spend-on : {v : List ℕ} {next : ℕ} → ask s d ≡ true → v ≡ add_four s d → next ≡ w d
-              → go (v, next, left - 4) ≡ spend_step w ask (s, p, left)
-          unfolding spend_step
-          spend-on a q m = simp (ne_eqb p 0 n, g, le-leb 4 left h, ← at, a, q, m)
-
-    module _ {r : Hop} (v : List ℕ) (told : spent r v ≡ spend_step w ask (s, p, left)) where
-      pub spent-hop : (h : Hop) → r ≡ h → {o : SOut} → o ≡ after (spent h v) (λ t. spent_from w ask t.0 t.1 t.2)
-          → o ≡ spent_from w ask s p left
-      spent-hop h e q =
-          told-on (λ x. spent x v) told h e (λ t. spent_from w ask t.0 t.1 t.2) (s, p, left) (spent-eq s p left) q
-
-      pub spent-less : (next rest n : ℕ) → r ≡ Go next rest → left ≡ n → rest < n
-      spent-less next rest n e q =
-          told-less (λ x. spent x v) told (Go next rest) e (λ t. t.2) (s, p, left) (spend_step-falls _) (v, next, rest) refl n q
+    pub spent-falls : {v : List ℕ} {next rest : ℕ} → go (v, next, rest) ≡ spend_step w ask (s, p, left) → rest < left
+    spent-falls e = spend_step-falls (s, p, left) _ (sym e)

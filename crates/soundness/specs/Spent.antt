@@ -6,17 +6,21 @@
 --     all_ones u              no entry is over 1
 --     words_to_meet u          how many words are in use; lost where some entry is over 1
 --     ask_words, ask_buffer    what is asked of the descriptor at word d: its words; on receive its recorded length too
+--     ask_of side               which of the two a queue asks, by its side
 --     lost                   what is left where a walk is not as it should be: no walk ends with a multiple of four left from there
 --     spend_step, spent_from w ask s p left   the chain from p, four taken away for each descriptor: what is left, and the words met
 --     spent_all               the same for each head in turn
 --     transmit_heads, receive_heads   the heads of even number, and of odd number
 --     transmit_left, receive_left     what the queues of a side leave
+--     heads_at side, left_of side     the same for either side
 --     counted_sound           the whole test
 -- Assumes nothing: these are definitions.
 use Rattle.std.specs.Prelude.{ℕ, ◌*◌, ◌-◌, Bool, true, List, [], ◌∷◌, get_or, eqb, leb}
 use Rattle.layout.specs.Choice.{pick, both}
 use Rattle.layout.specs.Run.{Next, go, stop, run}
 use Rattle.layout.specs.Layout.{good_ptr, word_of, length_max}
+use Rattle.layout.specs.declared.Side.{Side}
+use Rattle.layout.specs.declared.Side.TheVariants.{Transmit, Receive}
 use Rattle.words.specs.WordSet.{empty_set, free_at, used_at, add_four, words_in_use}
 
 abbrev pub lost : ℕ
@@ -37,6 +41,10 @@ ask_length lens d = both (leb 1 (get_or lens d 0)) (leb (get_or lens d 0) length
 
 abbrev pub ask_buffer : List ℕ → List ℕ → List ℕ → ℕ → Bool
 ask_buffer used lens met d = both (ask_words used met d) (ask_length lens d)
+
+abbrev pub ask_of : Side → List ℕ → List ℕ → List ℕ → ℕ → Bool
+ask_of Transmit used lens = ask_words used
+ask_of Receive used lens = ask_buffer used lens
 
 -- the words met, where the walk is, and how many are left
 abbrev pub SSt : Type 0
@@ -76,6 +84,14 @@ transmit_left w heads used met left = spent_all w (ask_words used) (transmit_hea
 
 abbrev pub receive_left : (ℕ → ℕ) → List ℕ → List ℕ → List ℕ → List ℕ → ℕ → SOut
 receive_left w heads used lens met left = spent_all w (ask_buffer used lens) (receive_heads heads) met left
+
+abbrev pub heads_at : Side → List ℕ → List ℕ
+heads_at Transmit hs = transmit_heads hs
+heads_at Receive hs = receive_heads hs
+
+-- the same for either side
+abbrev pub left_of : Side → (ℕ → ℕ) → List ℕ → List ℕ → List ℕ → List ℕ → ℕ → SOut
+left_of side w heads used lens met left = spent_all w (ask_of side used lens) (heads_at side heads) met left
 
 unfoldable pub counted_sound : (ℕ → ℕ) → List ℕ → List ℕ → List ℕ → Bool
 counted_sound w heads used lens =

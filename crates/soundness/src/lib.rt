@@ -5,234 +5,157 @@
 
 #![tactic(auto)]
 
-ghost use Rattle.std.specs.Prelude.{◌≡◌, ◌≤◌, ◌<◌, max, length, eqb};
-ghost use Rattle.layout.specs.Choice.{pick};
-ghost use Rattle.layout.specs.Layout.{desc_bytes, desc_words};
+ghost use Rattle.std.specs.Prelude.{◌≡◌, ◌≤◌, ◌<◌};
+ghost use Rattle.layout.specs.Layout.{desc_words, queues, channels, queue_of};
 ghost use Rattle.words.specs.Word.{word};
 ghost use Rattle.words.specs.WordSet.{words_in_use};
 ghost use Rattle.registers.specs.Table.{heads_of};
 ghost use Rattle.book.specs.World.{sound_book};
-ghost use Rattle.soundness.specs.Spent.{ask_words, ask_length, ask_buffer, spend_step, spent_from};
-ghost use Rattle.soundness.specs.Spent.{words_to_meet, transmit_left, receive_left};
+ghost use Rattle.soundness.specs.Spent.{ask_length, ask_of, spend_step, spent_from, words_to_meet, left_of};
 ghost use Rattle.soundness.specs.Hops.{spent};
 
-use layout::{CHANNELS, DESC_WORDS, LENGTH_MAX, Lengths, Words, word_number};
+use std::ops::ControlFlow;
+
+use layout::{CHANNELS, LENGTH_MAX, Lengths, Memory, Side, Slot, Words, slot_at};
 use registers::{State, are_flags};
 
 // Left where a walk is not as it should be: walks take away by fours, so no multiple of four is ever left from there.
 const LOST: u32 = 1;
 
-// What is left to do after one descriptor: the walk is over with so many left, or goes on at a pointer with so many left.
-#[derive(Drop)]
-enum Hop {
-    Stop(u32),
-    Go(u32, u32),
-}
-
-fn greater(a: u8, b: u8) -> u8
-    ensures { result ≡ max a b }
-{
-    if a < b { b } else { a }
-}
-
-// One for an entry of the words in use that is not 0, by the smaller of the two.
-fn one_word(entry: u8) -> u16
-    ensures { (result ≡ pick (eqb entry 0) 0 1) × (result ≤ 1) }
-{
-    if entry < 1 { entry as u16 } else { 1 }
-}
-
-// One for a length that is recorded.
-fn one_length(entry: u16) -> u16
-    ensures { (result ≡ pick (eqb entry 0) 0 1) × (result ≤ 1) }
-{
-    if entry == 0 { 0 } else { 1 }
-}
-
-// How many words are in use, or lost where an entry is over 1. A slice, since its length is a fact that the proof can use.
-// The loop keeps the highest entry and has one way out, so that it is compiled to many entries a turn.
-fn count_words(used: &[u8]) -> u32
-    requires { length used.now ≡ desc_words }
+// How many words are in use, or lost where an entry is over 1. The loop keeps the highest entry and has one way out, so that it is
+// compiled to many entries a turn.
+fn count_words(used: &Words) -> u32
     ensures { result ≡ words_to_meet used.now }
 {
     let mut top: u8 = 0;
     let mut n: u16 = 0;
-    let mut k: usize = 0;
-    while k < DESC_WORDS {
-        let entry = used[k];
-        top = greater(top, entry);
-        n += one_word(entry);
-        k += 1;
+    for entry in used {
+        top = top.max(*entry);
+        n += u16::from(*entry != 0);
     }
-    if top <= 1 { n as u32 } else { LOST }
+    if top <= 1 { u32::from(n) } else { LOST }
 }
 
-// How many lengths are recorded. A slice likewise.
-fn count_lengths(lens: &[u16]) -> u32
-    requires { length lens.now ≡ desc_words }
+// How many lengths are recorded.
+fn count_lengths(lens: &Lengths) -> u32
     ensures { (result ≡ words_in_use lens.now) × (result ≤ desc_words) }
 {
     let mut n: u16 = 0;
-    let mut k: usize = 0;
-    while k < DESC_WORDS {
-        n += one_length(lens[k]);
-        k += 1;
+    for length in lens {
+        n += u16::from(*length != 0);
     }
-    n as u32
+    u32::from(n)
 }
 
-// Whether the descriptor at word d is over words that are in use and not met before.
-fn is_owed(used: &Words, met: &Words, d: usize) -> bool
-    requires { d ≤ 2044 }
-    ensures { result ≡ ask_words used.now met.now d }
+// Whether a length is recorded at d, and in order.
+fn is_recorded(lens: &Lengths, d: Slot) -> bool
+    ensures { result ≡ ask_length lens.now d.word }
 {
-    if !words::four_free(met, d) {
-        return false;
-    }
-    words::four_used(used, d)
+    let length = u32::from(lens[d.word]);
+    1 <= length && length <= LENGTH_MAX
 }
 
-// Whether a length is recorded at word d, and in order.
-fn is_recorded(lens: &[u16], d: usize) -> bool
-    requires { d < length lens.now }
-    ensures { result ≡ ask_length lens.now d }
+// Whether a descriptor at d is as its queue asks: it is over words that are in use and not met before, and a receive descriptor has a
+// length recorded.
+fn is_owed(side: Side, used: &Words, lens: &Lengths, met: &Words, d: Slot) -> bool
+    ensures { result ≡ ask_of side used.now lens.now met.now d.word }
 {
-    let length = lens[d];
-    if length < 1 {
-        return false;
+    let words_owed = words::four_free(met, d.word) && words::four_used(used, d.word);
+    match side {
+        Side::Transmit => words_owed,
+        Side::Receive => words_owed && is_recorded(lens, d),
     }
-    (length as u32) <= LENGTH_MAX
 }
 
-// A transmit descriptor at p is met.
-fn transmit_at(m: &[u8], used: &Words, met: &mut Words, p: u32, left: u32) -> Hop
-    requires { length m.now ≡ desc_bytes }
+// The descriptor at p is met: the walk goes on at the next pointer with four fewer left, or it is over with so many left.
+#[tactic(auto, using(book::proofs::SoundLaws::good_not_zero), unfolding(crate::specs::Spent::spend_step))]
+fn meet_at(
+    m: &Memory,
+    side: Side,
+    used: &Words,
+    lens: &Lengths,
+    met: &mut Words,
+    p: u32,
+    left: u32,
+) -> ControlFlow<u32, (u32, u32)>
     ensures { spent result met.new
-        ≡ spend_step (word m.now) (ask_words used.now) (met.old, p, left) }
+        ≡ spend_step (word m.now) (ask_of side used.now lens.now) (met.old, p, left) }
 {
-    if p == 0 {
-        return Hop::Stop(left);
+    match slot_at(p) {
+        Some(d) if 4 <= left && is_owed(side, used, lens, met, d) => {
+            words::take_four(met, d);
+            ControlFlow::Continue((words::word_of(m, d.word), left - 4))
+        }
+        None if p == 0 => ControlFlow::Break(left),
+        _ => ControlFlow::Break(LOST),
     }
-    if !layout::is_good(p) {
-        return Hop::Stop(LOST);
-    }
-    if left < 4 {
-        return Hop::Stop(LOST);
-    }
-    let d = word_number(p);
-    if !is_owed(used, met, d) {
-        return Hop::Stop(LOST);
-    }
-    words::take_four(met, d);
-    Hop::Go(words::word_of(m, d), left - 4)
 }
 
-// What the transmit queue from p leaves of the words in use.
-fn transmit_from(m: &&[u8], used: &Words, met: &mut Words, p: u32, left: u32) -> u32
-    requires { length m.now.now ≡ desc_bytes }
+// What the queue from p leaves of the words in use.
+fn walk_from(
+    m: &Memory,
+    side: Side,
+    used: &Words,
+    lens: &Lengths,
+    met: &mut Words,
+    mut p: u32,
+    mut left: u32,
+) -> u32
     ensures { (result, met.new)
-        ≡ spent_from (word m.now.now) (ask_words used.now) met.old p left }
+        ≡ spent_from (word m.now) (ask_of side used.now lens.now) met.old p left }
 {
-    let hop = transmit_at(*m, used, met, p, left);
-    match hop {
-        Hop::Stop(rest) => rest,
-        Hop::Go(next, rest) => transmit_from(m, used, met, next, rest),
+    loop {
+        match meet_at(m, side, used, lens, met, p, left) {
+            ControlFlow::Continue((next, rest)) => {
+                p = next;
+                left = rest;
+            }
+            ControlFlow::Break(rest) => return rest,
+        }
     }
 }
 
-// What all transmit queues leave of them: those of even number.
-fn transmit_heads(m: &[u8], t: &State, used: &Words, met: &mut Words, left: u32) -> u32
-    requires { length m.now ≡ desc_bytes }
-    ensures { (result, met.new)
-        ≡ transmit_left (word m.now) (heads_of t.now) used.now met.old left }
+// The queue of a side on channel c.
+fn queue_of(side: Side, c: usize) -> usize
+    requires { c < channels }
+    ensures { (result ≡ queue_of side c) × (result < queues) }
 {
-    let memory = m;
-    let mut rest = left;
-    let mut c: usize = 0;
-    while c < CHANNELS {
-        rest = transmit_from(&memory, used, met, t[2 * c], rest);
-        c += 1;
-    }
-    rest
-}
-
-// A receive descriptor at p is met, and has its length recorded.
-fn receive_at(m: &[u8], used: &Words, lens: &Lengths, met: &mut Words, p: u32, left: u32) -> Hop
-    requires { length m.now ≡ desc_bytes }
-    ensures { spent result met.new ≡ spend_step (word m.now) (ask_buffer used.now lens.now)
-        (met.old, p, left) }
-{
-    if p == 0 {
-        return Hop::Stop(left);
-    }
-    if !layout::is_good(p) {
-        return Hop::Stop(LOST);
-    }
-    if left < 4 {
-        return Hop::Stop(LOST);
-    }
-    let d = word_number(p);
-    if !is_owed(used, met, d) {
-        return Hop::Stop(LOST);
-    }
-    if !is_recorded(lens, d) {
-        return Hop::Stop(LOST);
-    }
-    words::take_four(met, d);
-    Hop::Go(words::word_of(m, d), left - 4)
-}
-
-// What the receive queue from p leaves.
-fn receive_from(m: &&[u8], used: &Words, lens: &Lengths, met: &mut Words, p: u32, left: u32) -> u32
-    requires { length m.now.now ≡ desc_bytes }
-    ensures { (result, met.new) ≡ spent_from (word m.now.now) (ask_buffer used.now lens.now)
-        met.old p left }
-{
-    let hop = receive_at(*m, used, lens, met, p, left);
-    match hop {
-        Hop::Stop(rest) => rest,
-        Hop::Go(next, rest) => receive_from(m, used, lens, met, next, rest),
+    match side {
+        Side::Transmit => 2 * c,
+        Side::Receive => 2 * c + 1,
     }
 }
 
-// What all receive queues leave: those of odd number.
-fn receive_heads(
-    m: &[u8],
+// What all queues of a side leave of them.
+fn walk_heads(
+    m: &Memory,
     t: &State,
+    side: Side,
     used: &Words,
     lens: &Lengths,
     met: &mut Words,
     left: u32,
 ) -> u32
-    requires { length m.now ≡ desc_bytes }
-    ensures { (result, met.new) ≡ receive_left (word m.now) (heads_of t.now) used.now
-        lens.now met.old left }
+    ensures { (result, met.new)
+        ≡ left_of side (word m.now) (heads_of t.now) used.now lens.now met.old left }
 {
-    let memory = m;
     let mut rest = left;
-    let mut c: usize = 0;
-    while c < CHANNELS {
-        rest = receive_from(&memory, used, lens, met, t[2 * c + 1], rest);
-        c += 1;
+    for c in 0..CHANNELS {
+        rest = walk_from(m, side, used, lens, met, t[queue_of(side, c)], rest);
     }
     rest
 }
 
 // Whether the book is sound. The scratch set is lent, and nothing is promised of what it holds afterwards.
-pub fn is_sound(m: &[u8], t: &State, used: &Words, lens: &Lengths, scratch: &mut Words) -> bool
-    requires { length m.now ≡ desc_bytes }
+pub fn is_sound(m: &Memory, t: &State, used: &Words, lens: &Lengths, scratch: &mut Words) -> bool
     ensures { result ≡ sound_book (word m.now) t.now used.now lens.now }
 {
     if !are_flags(t) {
         return false;
     }
-    // Both are counted first: a size is told where an array is lent as a slice, and each answer from here on rests on both sizes.
     let words = count_words(used);
     let lengths = count_lengths(lens);
     words::clear_all(scratch);
-    let received = transmit_heads(m, t, used, scratch, words);
-    if received != 4 * lengths {
-        return false;
-    }
-    receive_heads(m, t, used, lens, scratch, received) == 0
+    let received = walk_heads(m, t, Side::Transmit, used, lens, scratch, words);
+    received == 4 * lengths && walk_heads(m, t, Side::Receive, used, lens, scratch, received) == 0
 }

@@ -1,17 +1,13 @@
 -- `book::release_from` has fewer words in use at each call, and is one step and the release from where that goes. Assumes nothing.
-use mathlib.Core.Path.{refl}
-use Rattle.book.specs.declared.ReleaseHop.TheVariants.{Stop, Go}
-use Rattle.book.proofs.ReleaseLaws.{released-turn, turn-falls}
+use Rattle.std.proofs.Common.{◌∙◌}
+use Rattle.book.proofs.ReleaseLaws.{released-on, released-over, released-falls}
 use Rattle.book.proofs.+release_from.Goals as goal
 
-pub release_at-turn-requires : goal.release_at-turn-requires
-release_at-turn-requires t c = c.requires
-
 pub release_from-requires : goal.release_from-requires
-release_from-requires t c = (turn-falls _ _ _ _ _ c.release_at-turn.ensures _ _ t c.in-Go.is c.decreases, c.requires)
+release_from-requires t c = (rw (← c.decreases) (released-falls _ _ _ _ c.in-Some.ensures), tt)
 
-pub returns-in-Stop : goal.returns-in-Stop
-returns-in-Stop t c = released-turn _ _ _ _ _ c.release_at-turn.ensures Stop c.in-Stop.is refl
+pub returns-in-None : goal.returns-in-None
+returns-in-None t c = released-over _ _ _ _ c.in-None.ensures
 
-pub returns-in-Go : goal.returns-in-Go
-returns-in-Go t c = released-turn _ _ _ _ _ c.release_at-turn.ensures (Go _ _) c.in-Go.is c.release_from.ensures
+pub returns-in-Some : goal.returns-in-Some
+returns-in-Some t c = c.release_from.ensures ∙ released-on _ _ _ _ c.in-Some.ensures

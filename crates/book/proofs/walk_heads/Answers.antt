@@ -1,15 +1,13 @@
--- `book::walk_heads` has walked the chains of the queues below q. Assumes nothing.
-use native.Mathlib.Omega.{arith}
-use borrow.Author.Rules.{rules}
-use Rattle.book.proofs.HeadLaws.{walking-first, walking-next, walking-last}
+-- `book::walk_heads` has walked the chains of the queues passed. Assumes nothing.
+use Rattle.std.proofs.Common.{refl}
+use Rattle.book.proofs.HeadLaws.{walking-next, walking-last}
 use Rattle.book.proofs.walk_heads.Goals as goal
 
-pub loop-q-init : goal.loop-q-init
-loop-q-init c = walking-first _ _ _
+pub loop-head-init : goal.loop-head-init
+loop-head-init c = record { rest = refl }
 
-pub loop-q-preserved : goal.loop-q-preserved
-loop-q-preserved c = walking-next (search rules) c.walk_from.ensures c.is_both-good.ensures
-    c.loop-q.invariant
+pub loop-head-preserved : goal.loop-head-preserved
+loop-head-preserved c = walking-next c.walk_from-good.ensures c.loop-head.invariant
 
 pub returns : goal.returns
-returns c = walking-last (omega arith) c.loop-q.invariant
+returns c = walking-last c.loop-head-test.false c.loop-head.invariant

@@ -1,12 +1,14 @@
 -- `guard::guest_write`: 1 or 2, then the release and the judge. Assumes nothing.
-use Rattle.guard.proofs.GivesLaws.{zero-size, write-refused, write-gives}
+use Rattle.guard.proofs.GivesLaws.{zero-size, released-same, write-refused, write-gives}
 use Rattle.guard.proofs.guest_write.Goals as goal
 
-pub returns-then-n-ne0 : goal.returns-then-n-ne0
-returns-then-n-ne0 c = write-refused _ _ _ _ _ _ _ c.state_fault-n.ensures c.if-n-ne0.true
+pub returns-in-Err : goal.returns-in-Err
+returns-in-Err c = rw c.into.ensures (write-refused _ _ _ _ _ _ _ _ c.in-Err.ensures)
 
-pub write_released-requires : goal.write_released-requires
-write_released-requires c = zero-size _ _ _ _ _ c.state_fault-n.ensures c.if-n-ne0.false
+pub unwrap-requires : goal.unwrap-requires
+unwrap-requires c = c.as_mut_array.ensures.variant.1 (zero-size _ _ _ _ _ c.in_default.ensures)
 
 pub returns : goal.returns
-returns c = write-gives _ _ _ _ _ _ _ c.state_fault-n.ensures c.if-n-ne0.false c.write_released.ensures
+returns c =
+    let e = rw c.unwrap.ensures at c.as_mut_array.ensures.cases in
+    rw c.into-2.ensures (write-gives _ _ _ _ _ _ _ c.in_default.ensures (released-same _ _ _ _ _ _ _ e.same c.write_released.ensures))

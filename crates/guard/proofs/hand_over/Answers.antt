@@ -3,9 +3,7 @@ use Rattle.guard.proofs.ChainLaws.{over-refused, over-taken}
 use Rattle.guard.proofs.hand_over.Goals as goal
 
 pub returns-in_default : goal.returns-in_default
-returns-in_default c = over-refused _ _ _ _ _ _ c.check_used-c.ensures _ _ _ c.in_default.is
-    c.refusal.ensures
+returns-in_default c = rw c.in_default.is (over-refused _ _ _ _ _ _ _ c.in_default.ensures)
 
 pub returns : goal.returns
-returns c = over-taken _ _ _ _ _ _ c.check_used-c.ensures _ _
-    c.in-Good.is c.take_chain.ensures
+returns c = over-taken _ _ _ _ _ _ _ c.in-Ok.ensures c.take_chain.ensures

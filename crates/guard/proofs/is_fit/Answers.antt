@@ -3,10 +3,10 @@ use Rattle.std.proofs.Common.{eq-eqb, ne_eqb}
 use Rattle.book.specs.World.{fit_parts}
 use Rattle.guard.proofs.is_fit.Goals as goal
 
-pub returns-then-m-ne-DESC_BYTES : goal.returns-then-m-ne-DESC_BYTES
+pub returns-then-m-eq-DESC_BYTES : goal.returns-then-m-eq-DESC_BYTES
 unfolding fit_parts
-returns-then-m-ne-DESC_BYTES c = simp (ne_eqb _ _ c.if-m-ne-DESC_BYTES.true)
+returns-then-m-eq-DESC_BYTES c = simp (eq-eqb _ _ c.if-m-eq-DESC_BYTES.true) c.kinds_fit.ensures
 
-pub returns : goal.returns
+pub returns-else-m-eq-DESC_BYTES : goal.returns-else-m-eq-DESC_BYTES
 unfolding fit_parts
-returns c = simp (eq-eqb _ _ c.if-m-ne-DESC_BYTES.false) c.kinds_fit.ensures
+returns-else-m-eq-DESC_BYTES c = simp (ne_eqb _ _ c.if-m-eq-DESC_BYTES.false)

@@ -3,11 +3,7 @@ use Rattle.guard.proofs.ChainLaws.{append-refused, append-taken}
 use Rattle.guard.proofs.judge_append.Goals as goal
 
 pub returns-in_default : goal.returns-in_default
-returns-in_default c = append-refused _ _ _ _ _ _ _ c.check_used-c.ensures _ _ _ c.in_default.is
-    c.refusal.ensures
+returns-in_default c = rw c.in_default.is (append-refused _ _ _ _ _ _ _ _ c.in_default.ensures)
 
 pub returns : goal.returns
-returns c = append-taken _ _ _ _ _ _ _
-    c.check_used-c.ensures _ _ _
-    c.in-Good.is
-    c.take_chain.ensures c.put_at.ensures
+returns c = append-taken _ _ _ _ _ _ _ _ _ c.in-Ok.ensures c.take_chain.ensures c.put_at.ensures

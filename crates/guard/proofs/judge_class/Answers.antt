@@ -1,8 +1,11 @@
 -- `guard::judge_class` goes by the class number. Assumes nothing.
-use Rattle.std.proofs.Common.{refl, arith}
+use Rattle.std.proofs.Common.{ℕ, refl, ap, ◌∙◌, arith}
+use Rattle.layout.specs.Layout.{queue_of}
+use Rattle.layout.specs.declared.Side.{Side}
+use Rattle.registers.specs.Rules.{tear_queue}
 use Rattle.guard.proofs.GivesLaws.{class-head}
 use Rattle.guard.proofs.ClassLaws.{class-ack, class-teardown, class-reset, class-zero, class-passed, class-unoffered, class_low}
-use Rattle.guard.proofs.ClassLaws.{class-mid, class-past}
+use Rattle.guard.proofs.ClassLaws.{class-mid, class-past, queue_of-side}
 use Rattle.guard.proofs.judge_class.Goals as goal
 
 pub returns-in-34 : goal.returns-in-34
@@ -15,7 +18,9 @@ pub returns-in-16-to-17 : goal.returns-in-16-to-17
 returns-in-16-to-17 c = class-ack _ _ _ _ _ _ _ (omega arith) (omega arith) refl c.judge_ack.ensures
 
 pub returns-in-32-to-33 : goal.returns-in-32-to-33
-returns-in-32-to-33 c = class-teardown _ _ _ _ _ _ _ (omega arith) (omega arith) c.tear_queue.ensures.0 c.judge_teardown.ensures
+returns-in-32-to-33 c = class-teardown _ _ _ _ _ _ _ (omega arith) (omega arith) (c.tear_queue.ensures.0
+    ∙ ap (λ (k : ℕ). tear_queue k c.args.v) (ap (λ (s : Side). queue_of s 0) c.side_of.ensures ∙ queue_of-side _ (omega arith)))
+    c.judge_teardown.ensures
 
 pub returns-in-35-to-47 : goal.returns-in-35-to-47
 returns-in-35-to-47 c = class-zero _ _ _ _ _ _ _ (omega arith)

@@ -1,32 +1,19 @@
--- `kinds::in_reception`: what is still to be looked at decides. Assumes nothing.
-use mathlib.Core.Path.{◌∙◌, sym}
-use native.Mathlib.Omega.{arith}
+-- `kinds::in_reception`: any of the recorded lengths, each with the number of its word. Assumes nothing.
+use Rattle.std.proofs.Common.{rules, ℕ, ◌+◌, ◌∙◌}
+use Rattle.std.proofs.lemmas.Iterator.{YieldsList-from_slice}
+use Rattle.std.proofs.lemmas.Iterator.Consumers.{YieldsList-from_enumerate}
+use Rattle.std.proofs.lemmas.Iterator.Search.{any_from_yields_List}
 use Rattle.words.specs.Word.{word}
-use Rattle.kinds.proofs.KindLaws.{reception-start, reception-found, reception-on, received-end}
+use Rattle.blocks.specs.Room.{touches}
+use Rattle.kinds.specs.Kinds.{in_reception}
+use Rattle.kinds.proofs.KindLaws.{received-any}
 use Rattle.kinds.proofs.in_reception.Goals as goal
 
-pub loop-i-init : goal.loop-i-init
-loop-i-init c = (omega arith, reception-start _ _ _)
-
-pub bounds-lens-i : goal.bounds-lens-i
-bounds-lens-i c = c.loop-i-test.true
-
-pub is_touching-requires : goal.is_touching-requires
-is_touching-requires c = c.requires
-
-pub returns-then-is_touching : goal.returns-then-is_touching
-returns-then-is_touching c = let a = c.args in let l = c.loop-i in
-    sym (reception-found (word a.m.now) a.b l.i a.lens.now c.loop-i-test.true
-    (sym c.is_touching.ensures ∙ c.if-is_touching.true)) ∙ l.invariant.1
-
-pub loop-i-preserved : goal.loop-i-preserved
-loop-i-preserved c = let a = c.args in
-    let l = c.loop-i in (
-      omega arith,
-      reception-on (word a.m.now) a.b l.i a.lens.now c.loop-i-test.true
-          (sym c.is_touching.ensures ∙ c.if-is_touching.false) ∙ l.invariant.1,
-    )
-
 pub returns : goal.returns
-returns c = let a = c.args in let l = c.loop-i in
-    sym (received-end (word a.m.now) a.b l.i l.i a.lens.now c.loop-i-test.false) ∙ l.invariant.1
+unfolding in_reception
+returns c =
+    let w = word c.args.m.now in
+    let b = c.args.b in
+    any_from_yields_List (λ (p : ℕ × ℕ). touches b (w (p.0 + 1)) p.1) _ _ _ c.any.ensures.ran
+    (YieldsList-from_enumerate (YieldsList-from_slice c.args.lens.now (cc)) (cc)) (λ x r q k. search rules)
+    ∙ received-any w b 0 c.args.lens.now

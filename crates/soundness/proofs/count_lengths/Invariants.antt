@@ -1,11 +1,6 @@
--- `soundness::count_lengths` has counted the entries that it has passed. Assumes nothing.
-use Prim.Native.Nat.{◌-◌}
-use Rattle.layout.specs.Layout.{desc_words}
+-- `soundness::count_lengths` has counted the entries passed. Assumes nothing.
 use Rattle.soundness.proofs.LoopLaws.{Counting}
 use Rattle.soundness.proofs.count_lengths.Given as goal
 
-abbrev pub invariant-loop-k : goal.invariant-loop-k
-invariant-loop-k l = Counting l.lens l.k l.n
-
-abbrev pub decreases-loop-k : goal.decreases-loop-k
-decreases-loop-k l = desc_words - l.k
+abbrev pub invariant-loop-length : goal.invariant-loop-length
+invariant-loop-length l = Counting l.lens l.length-index l.n

@@ -1,0 +1,12 @@
+-- `soundness::walk_heads` has walked the queues of a side on the channels below c. Assumes nothing.
+use Rattle.soundness.proofs.LoopLaws.{spending-first, spending-next, spending-last}
+use Rattle.soundness.proofs.walk_heads.Goals as goal
+
+pub loop-c-init : goal.loop-c-init
+loop-c-init c = spending-first _ _ _ _ _ _
+
+pub loop-c-preserved : goal.loop-c-preserved
+loop-c-preserved c = spending-next _ _ _ c.loop-c-test.true (rw (← c.queue_of.ensures.0) c.walk_from-rest.ensures) c.loop-c.invariant
+
+pub returns : goal.returns
+returns c = spending-last _ _ _ c.loop-c-test.false c.loop-c.invariant
