@@ -88,6 +88,7 @@ pub fn unguarded_write(mut c: Controller, m: &mut [u8], a: u32, v: u32) -> Stepp
 }
 
 // The controller of a fresh machine.
+#[tactic(auto, unfolding(crate::specs::Controller::fresh_controller))]
 pub fn fresh() -> Controller
     ensures { result ≡ fresh_controller }
 {

@@ -1,3 +1,2 @@
-pub mod TagLaws
 pub mod PartLaws
 pub mod Settled

@@ -5,15 +5,12 @@ use Prim.Native.Nat.{ℕ}
 use mathlib.Core.Path.{◌≡◌, ap, ◌∙◌}
 use mathlib.Core.List.{List}
 use Rattle.phases.specs.declared.Engine.{Engine}
-use Rattle.phases.specs.declared.Sending.{Sending}
-use Rattle.phases.specs.declared.Receiving.{Receiving}
-use Rattle.controller.specs.declared.Channel.{Channel}
 use Rattle.controller.specs.declared.Controller.{Controller}
 use Rattle.controller.specs.declared.Stepped.{Stepped}
 use Rattle.controller.specs.declared.Arrived.{Arrived}
-use Rattle.controller.specs.Controller.{StepDone, Framed, outcome, arrival, step_of, frame_of, unguarded_write, idle_channel}
-use Rattle.rig.specs.Record.{Parts, sending_in, receiving_in, channels_to, channels_in, sending_words, receiving_words, burst_words, tx_to}
-use Rattle.rig.specs.Record.{rx_to, controller_in, saved_in}
+use Rattle.controller.specs.Controller.{StepDone, Framed, outcome, arrival, step_of, frame_of, unguarded_write}
+use Rattle.rig.specs.Record.{Parts, burst_words}
+use Rattle.rig.specs.Record.{controller_in, saved_in}
 use Rattle.layout.specs.Refusals.{fault}
 use Rattle.phases.specs.Engines.{engine_at}
 use Rattle.rig.specs.Lent.{lent, lent_by, came, came_by}

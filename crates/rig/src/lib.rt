@@ -48,6 +48,7 @@ fn number(answer: Result<(), Refusal>) -> u32
 }
 
 // The transmit phase of a row.
+#[tactic(auto, unfolding(crate::specs::Record::sending_by))]
 fn read_sending(w: SendingRow) -> Sending
     ensures { result ≡ sending_in w }
 {
@@ -80,6 +81,7 @@ fn read_sending(w: SendingRow) -> Sending
 }
 
 // The receive phase of a row.
+#[tactic(auto, unfolding(crate::specs::Record::receiving_by))]
 fn read_receiving(w: ReceivingRow) -> Receiving
     ensures { result ≡ receiving_in w }
 {
@@ -137,6 +139,7 @@ fn read_channels(tx: &SendingRows, rx: &ReceivingRows) -> [Channel; CHANNELS]
 }
 
 // The record of all parts. They stay five arrays, as C lends them.
+#[tactic(auto, unfolding(crate::specs::Record::controller_in))]
 fn read_record(
     state: &State,
     stages: &Stages,
@@ -240,6 +243,7 @@ fn save_channels(tx: &mut SendingRows, rx: &mut ReceivingRows, all: &[Channel; C
 }
 
 // The record into its parts.
+#[tactic(auto, unfolding(crate::specs::Record::saved_in))]
 fn save_record(
     state: &mut State,
     stages: &mut Stages,
