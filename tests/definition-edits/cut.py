@@ -34,7 +34,7 @@ def items_of(text):
         lines.append(line)
         depth += sum(bare.count(c) for c in "([{") - sum(bare.count(c) for c in ")]}")
         # a clause of a contract stands between a function's head and its body, so a line of its own never ends the item
-        ends = bare.rstrip().endswith((";", "}", "]")) and not bare.startswith("#[") and not line.startswith(" ")
+        ends = bare.rstrip().endswith((";", "}")) and not bare.startswith("#[") and not line.startswith(" ")
         if depth == 0 and ends or bare.startswith("#!["):
             items.append(lines)
             lines = []
