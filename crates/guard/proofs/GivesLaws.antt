@@ -158,7 +158,8 @@ module _ (m k t u l : List ℕ) where
   -- ---- HDP
 
   module _ (q v : ℕ) where
-    pub head-refused : (r : Refusal) → refusal_number r ≡ head_number t q v → Gives (judge_head q v here) (Refused (refusal_number r)) m k t u l
+    pub head-refused : (r : Refusal) → refusal_number r ≡ head_number t q v
+        → Gives (judge_head q v here) (Refused (refusal_number r)) m k t u l
     unfolding judge_head
     head-refused r e = gives_as (rw (← e) (number-no (refusal_number r) _ _ (refusal-some r))) (refused-gives (refusal_number r))
 
@@ -306,13 +307,15 @@ module _ (m k t u l : List ℕ) where
   refused-at true false n o e h = rw e (refused-gives 2)
   refused-at false g n o e h = rw e (refused-gives 1)
 
-  passed-at : (f g : Bool) (o : Outcome) → ◌≡◌ {A = ℕ} 0 (pick f (pick g 0 2) 1) → pick (not f) (refuse 1 here) (pick g o (refuse 2 here)) ≡ o
+  passed-at : (f g : Bool) (o : Outcome) → ◌≡◌ {A = ℕ} 0 (pick f (pick g 0 2) 1)
+      → pick (not f) (refuse 1 here) (pick g o (refuse 2 here)) ≡ o
   passed-at true true o e = refl
   passed-at true false o e = absurd (omega arith)
   passed-at false g o e = absurd (omega arith)
 
   module _ (act : World → Outcome) where
-    pub admitted-refused : (r : Refusal) → refusal_number r ≡ state_fault m k t u l → Gives (admitted here act) (Refused (refusal_number r)) m k t u l
+    pub admitted-refused : (r : Refusal) → refusal_number r ≡ state_fault m k t u l
+        → Gives (admitted here act) (Refused (refusal_number r)) m k t u l
     unfolding admitted state_fault unfit sound_world
     admitted-refused r e =
         refused-at (fit_parts m k) (sound_book (word m) t u l) (refusal_number r) (act (release here)) e (refusal-some r)

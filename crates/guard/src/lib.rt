@@ -35,8 +35,8 @@ use registers::{
 };
 use words::{copy_set, is_used, put_at, word_of};
 
-// Descriptor memory, kinds, small state, words in use and lengths always go together, and are no struct: C lends them one by one, and a struct
-// of loans would need a clause on each of its loans in every function.
+// Descriptor memory, kinds, small state, words in use and lengths always go together, and are no struct: C lends them one by one, and a
+// struct of loans would need a clause on each of its loans in every function.
 
 // Where the CPs begin: those that transmit, by channel, and so many bytes behind them those that receive.
 const CP_FIRST: u32 = 0x4A10_0A40;

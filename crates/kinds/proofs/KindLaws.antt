@@ -171,11 +171,13 @@ module _ (m k t u l : List ℕ) where
         → Gives (judge_kind i v (world_at m k t₁ u₁ l₁)) r m k' t' u' l' → Gives (judge_kind i v (release here)) r m k' t' u' l'
     kind-released e g = gives_as (ap (λ (s : World). judge_kind i v s) e) g
 
-    pub change-refused : (r : Refusal) → refusal_number r ≡ state_fault m k t u l → Gives (kind_change i v here) (Refused (refusal_number r)) m k t u l
+    pub change-refused : (r : Refusal) → refusal_number r ≡ state_fault m k t u l
+        → Gives (kind_change i v here) (Refused (refusal_number r)) m k t u l
     unfolding kind_change
     change-refused r e = admitted-refused m k t u l (λ s. judge_kind i v s) r e
 
-    pub change-gives : 0 ≡ state_fault m k t u l → {r : Answer} {k' t' u' l' : List ℕ} → Gives (judge_kind i v (release here)) r m k' t' u' l'
+    pub change-gives : 0 ≡ state_fault m k t u l → {r : Answer} {k' t' u' l' : List ℕ}
+        → Gives (judge_kind i v (release here)) r m k' t' u' l'
         → Gives (kind_change i v here) r m k' t' u' l'
     unfolding kind_change
     change-gives e g = gives_as (admitted-passed m k t u l (λ s. judge_kind i v s) e) g

@@ -153,7 +153,8 @@ module _ (bs : List ℕ) (ended : Bool) (h : Enough bs ended) (more : List ℕ) 
       ∙ fuel k (suc (length rest)) (4 + n) (fresh_machine (take n (drop 4 bs))) rest long (omega arith)
 
 abbrev pub printed-bad : (w : Window) (x y y' : List ℕ) (end : ℕ) → Enough (window_of w x) w.ended
-    → kinds_in (decode true (window_of w x)) ≡ None → Ends y 0 (bad_line 0) y' end → Printed (window_of w x) (record { end = end; ended = w.ended }) y'
+    → kinds_in (decode true (window_of w x)) ≡ None → Ends y 0 (bad_line 0) y' end
+    → Printed (window_of w x) (record { end = end; ended = w.ended }) y'
 printed-bad w x y y' end h e z =
     let bs = window_of w x in
     record {

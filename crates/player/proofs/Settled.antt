@@ -28,7 +28,8 @@ lines-replay : (read wrote : List ℕ) (r : ControlFlow Last Run) (m k t u l x y
 lines-replay read wrote (Continue r) m k t u l x y h more may = h.lines more may
 lines-replay read wrote (Break e) m k t u l x y h more may = h more may
 
-pub turned-unique : (s : Run) (m k t u l x y : List ℕ) (r : ControlFlow Last Run) (m1 k1 t1 u1 l1 x1 y1 : List ℕ) (q : ControlFlow Last Run) (m2 k2 t2 u2 l2 x2 y2 : List ℕ)
+pub turned-unique : (s : Run) (m k t u l x y : List ℕ) (r : ControlFlow Last Run) (m1 k1 t1 u1 l1 x1 y1 : List ℕ)
+    (q : ControlFlow Last Run) (m2 k2 t2 u2 l2 x2 y2 : List ℕ)
     (a : Turned s m k t u l x y r m1 k1 t1 u1 l1 x1 y1) (b : Turned s m k t u l x y q m2 k2 t2 u2 l2 x2 y2) → a.filled.got
     ≡ b.filled.got
     → (read wrote : List ℕ) → length (read ++ a.filled.got) < offset_end → Stands read wrote s m k t u l x y

@@ -131,7 +131,8 @@ module _ (d : Decoded) (w : Window) (c : Controller) (at o : ℕ) (m k t u l y :
         let k2 = subst (λ (b : List ℕ). Lines read wrote b (o + n) s.1 (drop n bs) w.ended) gathered-is k1 in
         let k3 = subst (λ (b : Machine). Lines read wrote (take r.at y') (o + n) b (drop n bs) w.ended) after_is k2 in
         let k4 = subst (λ (b : ℕ). Lines read wrote (take r.at y') b (machine_at r.ctl m' k' t' u' l') (drop n bs) w.ended) i k3 in
-        let k5 = subst (λ (b : List ℕ). Lines read wrote (take r.at y') r.offset (machine_at r.ctl m' k' t' u' l') b w.ended) (sym j) k4 in (
+        let k5 = subst (λ (b : List ℕ). Lines read wrote (take r.at y') r.offset (machine_at r.ctl m' k' t' u' l') b w.ended)
+        (sym j) k4 in (
           record {
             place = ap (λ (b : List ℕ). r.offset + length b) j ∙ ap (λ (b : ℕ). r.offset + b) (length-drop n bs) ∙ rest;
             lines = subst (λ (b : Bool). Lines read wrote (take r.at y') r.offset (machine_at r.ctl m' k' t' u' l')

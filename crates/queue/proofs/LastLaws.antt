@@ -103,7 +103,8 @@ tail_from w k n (h ∷ hs) q e = at (is_last w h k) refl e (tail_from w k (n + 1
     at false t e f = let r = f e in
         record { past = suc r.past; number = omega (arith, r.number); few = omega (arith, r.few); last = r.last }
 
-pub tail-yes : (w : ℕ → ℕ) (k : ℕ) (hs : List ℕ) (q : ℕ) → tail_in w k 0 hs ≡ Some q → (q < length hs) × (is_last w (get_or hs q 0) k ≡ true)
+pub tail-yes : (w : ℕ → ℕ) (k : ℕ) (hs : List ℕ) (q : ℕ) → tail_in w k 0 hs ≡ Some q
+    → (q < length hs) × (is_last w (get_or hs q 0) k ≡ true)
 tail-yes w k hs q e =
     let r = tail_from w k 0 hs q e in
     let z : r.past ≡ q = omega (arith, r.number) in

@@ -16,4 +16,5 @@ returns-in-Some c =
     address_word _ _ _ _ _ _ _ c.if-a-ne0.false refl f.0 f.2 c.judge_word.ensures
 
 pub returns-in-None : goal.returns-in-None
-returns-in-None c = address-class _ _ _ _ _ _ _ c.if-a-ne0.false refl (word-none _ c.if-a-ne0.false c.in-None.ensures) c.class_at.ensures c.judge_class.ensures
+returns-in-None c = address-class _ _ _ _ _ _ _ c.if-a-ne0.false refl
+    (word-none _ c.if-a-ne0.false c.in-None.ensures) c.class_at.ensures c.judge_class.ensures

@@ -10,7 +10,8 @@ loop-init c = last_of-is _ _
 
 pub returns-in_default : goal.returns-in_default
 returns-in_default c =
-    sym (last-stop (word c.args.m.now) (desc_words - c.loop.counter) _ c.word_of.ensures (omega arith) c.in_default.ensures) ∙ c.loop.invariant
+    sym (last-stop (word c.args.m.now) (desc_words - c.loop.counter) _ c.word_of.ensures
+    (omega arith) c.in_default.ensures) ∙ c.loop.invariant
 
 pub loop-preserved : goal.loop-preserved
 loop-preserved c =

@@ -9,7 +9,8 @@ use Rattle.player.proofs.act.Goals as goal
 pub returns-in-Ok-Some-clause-acted : goal.returns-in-Ok-Some-clause-acted
 returns-in-Ok-Some-clause-acted g c =
     let h = c.requires in
-    acted-good _ _ _ _ _ _ _ _ _ _ _ _ _ (decoded-is c.in-Ok-Some.is (rw c.in-Ok-Some.is at c.in-Ok-Some.field-0-is)) _ _ _ _ _ _ _ _ c.play-played.ensures.plays
+    acted-good _ _ _ _ _ _ _ _ _ _ _ _ _ (decoded-is c.in-Ok-Some.is
+    (rw c.in-Ok-Some.is at c.in-Ok-Some.field-0-is)) _ _ _ _ _ _ _ _ c.play-played.ensures.plays
     (record { ctl = refl; at = refl; window = c.pass.ensures; offset = c.saturating_add.ensures })
     (omega (arith, c.play-played.ensures.end_bound, h.1, h.2)) h.0
 
@@ -31,7 +32,8 @@ pub returns-clause-acted : goal.returns-clause-acted
 returns-clause-acted g c = elim c.match-d.branch [
   | in-Ok-None w ↦
       rw (w.end-is, w.out-is)
-      (acted-end _ _ _ _ _ _ _ _ _ _ _ _ _ (decoded-is w.in-Ok-None.is (rw w.in-Ok-None.is at w.in-Ok-None.field-0-is)) (line-ends w.put_totals-end.ensures (length-sent_line _ _) (omega arith)))
+      (acted-end _ _ _ _ _ _ _ _ _ _ _ _ _ (decoded-is w.in-Ok-None.is (rw w.in-Ok-None.is at w.in-Ok-None.field-0-is))
+      (line-ends w.put_totals-end.ensures (length-sent_line _ _) (omega arith)))
   | in-Err w ↦
       rw (w.end-is, w.out-is)
       (acted-bad _ _ _ _ _ _ _ _ _ _ _ _ _ w.in-Err.is (line-ends w.put_bad-end.ensures (length-bad_line _) (omega arith)))

@@ -18,7 +18,8 @@ returns-clause-filled g c =
     let a = c.args in
     refilled-read a.wanted a.self a.buf.now c.copy_within.new.self c.read_full.new.buf c.in_ok-got.got c.requires.1 c.requires.0
     c.copy_within.ensures.after c.in_ok-got.ensures.count c.read_full.auto.buf _
-    (ap (λ (n : ℕ). nat_lt c.in_ok-got.got n) (mid_len _ (length c.copy_within.new.self) _ (omega arith))) c.if-wanted-left.false c.if-self.false
+    (ap (λ (n : ℕ). nat_lt c.in_ok-got.got n) (mid_len _ (length c.copy_within.new.self) _
+    (omega arith))) c.if-wanted-left.false c.if-self.false
 
 pub returns-clause-read : goal.returns-clause-read
 returns-clause-read g c =
