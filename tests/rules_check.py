@@ -43,7 +43,7 @@ def promises(parts, file):
     text = text_of(file)
     if len(parts) > 2 and parts[-2][0].isupper():
         text = "\n".join(re.findall(r"^impl %s \{$.*?^\}$" % parts[-2], text, re.M | re.S))
-    found = re.search(r"^( *)(?:pub )?fn %s\b.*?(?=^\1\{$)" % re.escape(parts[-1]), text, re.M | re.S)
+    found = re.search(r"^( *)(?:pub(?:\(crate\))? )?fn %s\b.*?(?=^\1\{$)" % re.escape(parts[-1]), text, re.M | re.S)
     return found is not None and re.search(r"^ *ensures\b", found.group(0), re.M) is not None
 
 
@@ -59,7 +59,7 @@ def is_there(column, name, file):
         parts = name.split("::")
         if parts[0] != file.split("/")[0] or len(parts) < 2:
             return "does not begin with the crate of %s" % file
-        return "" if stands(r"^ *(?:pub )?(?:extern \"C\" )?(?:fn|const|type|struct|enum) %s\b", parts[-1], file) else "is not in %s" % file
+        return "" if stands(r"^ *(?:pub(?:\(crate\))? )?(?:extern \"C\" )?(?:fn|const|type|struct|enum) %s\b", parts[-1], file) else "is not in %s" % file
     if "/src/" in file and file.endswith(".rt"):
         parts = name.split("::")
         if parts[0] != file.split("/")[0] or len(parts) < 2:
