@@ -1,4 +1,5 @@
 -- A kind change, from its parts. Assumes nothing.
+--     received-front                the last word left out
 --     received-any                  whether a receive buffer touches a block, recorded length by recorded length
 --     touches_none, touches-past    no length is recorded here; the last word begins no descriptor
 --     kind-18 .. kind-0             each number
@@ -10,7 +11,7 @@ use mathlib.Core.Bool.{Bool, true, false}
 use mathlib.Core.List.{List, [], ◌∷◌}
 use mathlib.Core.Logic.{◌≢◌}
 use native.Mathlib.Omega.{arith}
-use lib.ListN.{length, get_or, set, drop, get_or-eq_default}
+use lib.ListN.{take, length, get_or, set, get_or-eq_default}
 use lib.Dec.{eqb, leb, ltb}
 use borrow.Author.Tests.{eq-eqb, ne_eqb, le-ltb, lt-ltb, le-leb, lt-leb}
 use Rattle.std.proofs.Common.{◌||◌}
@@ -40,6 +41,21 @@ received-any w b k (x ∷ l) = at (touches b (w (k + 1)) x) (received-any w b (k
     at : (t : Bool) {x y : Bool} → x ≡ y → (t || x) ≡ pick t true y
     at true e = refl
     at false e = e
+
+-- the last word of them may be left out where it begins no descriptor
+pub received-front : (w : ℕ → ℕ) (b k j : ℕ) (l : List ℕ) → length l ≡ suc j → touches b (w (k + j + 1)) (get_or l j 0) ≡ false
+    → received w k (take j l) b ≡ received w k l b
+received-front w b k zero [] e h = absurd (omega arith)
+received-front w b k zero (x ∷ []) e h =
+    let i : k + 0 + 1 ≡ k + 1 = omega arith in
+    let g : touches b (w (k + 1)) x ≡ false = ap (λ (n : ℕ). touches b (w n) x) (sym i) ∙ h in
+    rw g refl
+received-front w b k zero (x ∷ y ∷ l) e h = absurd (omega arith)
+received-front w b k (suc j) [] e h = absurd (omega arith)
+received-front w b k (suc j) (x ∷ l) e h =
+    let i : k + suc j + 1 ≡ k + 1 + j + 1 = omega arith in
+    let g : touches b (w (k + 1 + j + 1)) (get_or l j 0) ≡ false = ap (λ (n : ℕ). touches b (w n) (get_or l j 0)) (sym i) ∙ h in
+    ap (λ (r : Bool). pick (touches b (w (k + 1)) x) true r) (received-front w b (k + 1) j l (omega arith) g)
 
 pub touches_none : (b lo : ℕ) → touches b lo 0 ≡ false
 unfolding touches
