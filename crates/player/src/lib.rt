@@ -186,10 +186,12 @@ fn replay_rest<R: Read, W: Write>(
 {
     let mut s = first;
     for _ in 0..u64::MAX {
-        s = match take_turn(source, to, input, s, tables, kinds, out)? {
-            ControlFlow::Continue(next) => next,
-            ControlFlow::Break(last) => return Ok(last),
-        };
+        // three arms in place of `?`, which copies the run once more
+        match take_turn(source, to, input, s, tables, kinds, out) {
+            Ok(ControlFlow::Continue(next)) => s = next,
+            Ok(ControlFlow::Break(last)) => return Ok(last),
+            Err(e) => return Err(e),
+        }
     }
     Ok(Last {
         end: s.at,

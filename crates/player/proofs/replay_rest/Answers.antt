@@ -11,15 +11,15 @@ loop-init g c =
 
 pub loop-preserved : goal.loop-preserved
 loop-preserved g c =
-    let on = rw c.in-Continue.is at c.in_ok-next.ensures.on in (
+    let on = rw c.in-Ok-Continue.field-0-is at c.in-Ok-Continue.ensures.on in (
       on.turned.holds,
-      turns-on-more _ _ _ _ _ _ _ _ _ _ _ _ _ _ _ _ _ _ _ _ _ c.loop.invariant.1 _ _ _ c.in-Continue.next _ _ _ _ _ _ _ (omega arith) on,
+      turns-on-more _ _ _ _ _ _ _ _ _ _ _ _ _ _ _ _ _ _ _ _ _ c.loop.invariant.1 _ _ _ c.in-Ok-Continue.next _ _ _ _ _ _ _ (omega arith) on,
     )
 
-pub returns-in-Break-clause-on : goal.returns-in-Break-clause-on
-returns-in-Break-clause-on g c =
-    let on = rw c.in-Break.is at c.in_ok-next.ensures.on in
-    turns-on-last _ _ _ _ _ _ _ _ _ _ _ _ _ _ _ _ _ _ _ _ _ c.loop.invariant.1 _ _ c.in-Break.last _ _ _ _ _ _ _ on
+pub returns-in-Ok-Break-clause-on : goal.returns-in-Ok-Break-clause-on
+returns-in-Ok-Break-clause-on g c =
+    let on = rw c.in-Ok-Break.field-0-is at c.in-Ok-Break.ensures.on in
+    turns-on-last _ _ _ _ _ _ _ _ _ _ _ _ _ _ _ _ _ _ _ _ _ c.loop.invariant.1 _ _ c.in-Ok-Break.last _ _ _ _ _ _ _ on
 
 pub returns-clause-on : goal.returns-clause-on
 returns-clause-on g c = turns-on-all _ _ _ _ _ _ _ _ _ _ _ _ _ _ _ _ _ _ _ _ _ c.loop.invariant.1 (omega arith) c.loop.invariant.0
