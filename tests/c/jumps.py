@@ -5,7 +5,7 @@ import re
 import subprocess
 import sys
 
-WALKS = ["start_rule", "middle_rule", "receive_rule", "release_from", "take_from", "walk_from", "note_from"]
+WALKS = ["start_rule", "middle_rule", "receive_rule", "release_from", "take_chain", "walk_from", "note_from"]
 
 
 def name_of(symbol):

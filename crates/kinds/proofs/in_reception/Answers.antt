@@ -18,6 +18,7 @@ returns c =
     let l = c.args.lens.now in
     any_from_yields_List (λ (p : ℕ × ℕ). touches b (w (p.0 + 1)) p.1) _ _ _ c.any.ensures.ran
     (YieldsList-from_enumerate
-    (YieldsList-from_slice (take 2047 l) (ap iter_rest c.enumerate.ensures.source ∙ c.iter.ensures.rest)) c.enumerate.ensures.count) (λ x r q k. search rules)
+    (YieldsList-from_slice (take 2047 l) (ap iter_rest c.enumerate.ensures.source ∙ c.iter.ensures.rest)) c.enumerate.ensures.count)
+    (λ x r q k. search rules)
     ∙ received-any w b 0 (take 2047 l)
     ∙ received-front w b 0 2047 l c.told-lens (touches-past b _ 2047 _ c.told-m (c.fits-lens 2047) (omega arith))
