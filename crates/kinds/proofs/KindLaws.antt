@@ -1,5 +1,6 @@
 -- A kind change, from its parts. Assumes nothing.
 --     received-any                  whether a receive buffer touches a block, recorded length by recorded length
+--     reception-found               one that touches it settles the question
 --     touches_none, touches-past    no length is recorded here; the last word begins no descriptor
 --     kind-18 .. kind-0             each number
 --     kind-gives                    the change of one block on a released world
@@ -40,6 +41,16 @@ received-any w b k (x ∷ l) = at (touches b (w (k + 1)) x) (received-any w b (k
     at : (t : Bool) {x y : Bool} → x ≡ y → (t || x) ≡ pick t true y
     at true e = refl
     at false e = e
+
+received-next : (w : ℕ → ℕ) (b i j : ℕ) (l : List ℕ) → i < length l
+    → received w j (drop i l) b ≡ pick (touches b (w (j + 1)) (get_or l i 0)) true (received w (j + 1) (drop (suc i) l) b)
+received-next w b i j [] h = absurd (omega arith)
+received-next w b zero j (x ∷ l) h = refl
+received-next w b (suc i) j (x ∷ l) h = received-next w b i j l (omega arith)
+
+pub reception-found : (w : ℕ → ℕ) (b i : ℕ) (l : List ℕ) → i < length l → touches b (w (i + 1)) (get_or l i 0) ≡ true
+    → received w i (drop i l) b ≡ true
+reception-found w b i l h e = received-next w b i i l h ∙ rw e refl
 
 pub touches_none : (b lo : ℕ) → touches b lo 0 ≡ false
 unfolding touches

@@ -1,5 +1,5 @@
 -- `kinds::change_block`: without fault the kind is stored. Assumes nothing.
-use Rattle.std.proofs.Common.{◌∙◌, sym, arith}
+use Rattle.std.proofs.Common.{sym, arith}
 use Rattle.std.proofs.lemmas.Result.{err_from_is_err_and}
 use borrow.Author.Tests.{ltb-true, leb-true}
 use Rattle.kinds.proofs.KindLaws.{kind-tests, kind-refused, kind-changed}
