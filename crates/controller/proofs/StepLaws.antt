@@ -28,8 +28,8 @@ use Rattle.phases.specs.Receive as U
 use Rattle.registers.specs.Table.{hdp_of, cp_of, tearing_of}
 use Rattle.controller.specs.declared.Channel.{Channel}
 use Rattle.controller.specs.declared.Controller.{Controller}
-use Rattle.controller.specs.Controller.{StepDone, idle_channel, tx_of, rx_of, stage_of, answer, held_back, quiet_engine, quiet_channel, all_quiet}
-use Rattle.controller.specs.Controller.{on_channel, send_moved, take_moved, transmit_step, receive_step}
+use Rattle.controller.specs.Controller.{StepDone, idle_channel, tx_of, rx_of, stage_of, answer, held_back, quiet_engine, quiet_channel}
+use Rattle.controller.specs.Controller.{all_quiet, on_channel, send_moved, take_moved, transmit_step, receive_step}
 use Rattle.controller.specs.Controller.{tear_mark, tear_clear, tear_report, tear_step}
 
 -- ---- every channel is quiet

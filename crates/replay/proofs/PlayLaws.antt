@@ -2,7 +2,8 @@
 --     write-plays, kind-plays, frame-plays, step-goes   what happened in one operation, and its line
 --     goes_none, goes-more        no step; one more behind those made
 --     ram-plays, steps-plays      a `Ram` record, a `Steps` record
---     steps-goes, record-plays    the same of every machine; the record that was met
+--     steps-goes                  a `Steps` record, whatever kinds, small state, words in use and lengths
+--     record-plays                the record that was met
 --     line-end                    how far a line reaches
 use Prim.Native.Nat.{ℕ, zero, suc, ◌+◌, ◌≤◌}
 use mathlib.Core.Path.{◌≡◌, refl, ap, ◌∙◌, sym, subst}
