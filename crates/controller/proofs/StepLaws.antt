@@ -1,14 +1,19 @@
 -- What holds of the channels, of the engines' steps on the record, and of a teardown's stage. Assumes nothing.
 --     all-quiet                  what `all` asks of the channels
+--     quiet-more, quiet-whole    the first channels are quiet, by one more; all of them
 --     on-channel, off-channel    an engine of a channel that there is; of one that there is not
 --     sent, taken                a channel's step, from what the engine's gave on the values in the record
 --     tear-1, tear-2, tear-3     a teardown that moves, by its stage
-use Prim.Native.Nat.{ℕ, ◌<◌, ◌≤◌}
+use Prim.Native.Nat.{ℕ, zero, suc, ◌+◌, ◌<◌, ◌≤◌}
 use mathlib.Core.Path.{◌≡◌, refl, ap, sym, ◌∙◌}
 use mathlib.Core.Logic.{◌≢◌}
 use mathlib.Core.Bool.{Bool, true, false, ◌&&◌}
 use Rattle.std.specs.List.{list_all}
 use mathlib.Core.List.{List, [], ◌∷◌}
+use native.Mathlib.Nat.{not-suc-le-zero, le_of_suc-le-suc}
+use native.Mathlib.Numerals.{add-one}
+use lib.ListN.{length, get_or, take}
+use lib.Seq.{take_all}
 use lib.Dec.{eqb}
 use borrow.Author.Tests.{ne_eqb, lt-ltb, le-ltb}
 use Rattle.layout.specs.Choice.{pick, both}
@@ -23,8 +28,8 @@ use Rattle.phases.specs.Receive as U
 use Rattle.registers.specs.Table.{hdp_of, cp_of, tearing_of}
 use Rattle.controller.specs.declared.Channel.{Channel}
 use Rattle.controller.specs.declared.Controller.{Controller}
-use Rattle.controller.specs.Controller.{StepDone, tx_of, rx_of, stage_of, answer, held_back, quiet_engine, quiet_channel, all_quiet}
-use Rattle.controller.specs.Controller.{on_channel, send_moved, take_moved, transmit_step, receive_step}
+use Rattle.controller.specs.Controller.{StepDone, idle_channel, tx_of, rx_of, stage_of, answer, held_back, quiet_engine, quiet_channel}
+use Rattle.controller.specs.Controller.{all_quiet, on_channel, send_moved, take_moved, transmit_step, receive_step}
 use Rattle.controller.specs.Controller.{tear_mark, tear_clear, tear_report, tear_step}
 
 -- ---- every channel is quiet
@@ -36,6 +41,29 @@ all-quiet (x ∷ l) = at (quiet_channel x) (all-quiet l)
     at : (t : Bool) {a b : Bool} → a ≡ b → (t && a) ≡ both t b
     at true e = e
     at false e = refl
+
+both_true : (b : Bool) → both b true ≡ b
+both_true true = refl
+both_true false = refl
+
+quiet-suc : (l : List Channel) (i : ℕ) → i < length l
+    → both (all_quiet (take i l)) (quiet_channel (get_or l i idle_channel)) ≡ all_quiet (take (suc i) l)
+quiet-suc [] i h = absurd (not-suc-le-zero h)
+quiet-suc (x ∷ l) zero h = sym (both_true (quiet_channel x))
+quiet-suc (x ∷ l) (suc i) h = at (quiet_channel x) (quiet-suc l i (le_of_suc-le-suc h))
+  where
+    at : (t : Bool) → both (all_quiet (take i l)) (quiet_channel (get_or l i idle_channel)) ≡ all_quiet (take (suc i) l)
+        → both (both t (all_quiet (take i l))) (quiet_channel (get_or l i idle_channel)) ≡ both t (all_quiet (take (suc i) l))
+    at true e = e
+    at false e = refl
+
+pub quiet-more : (l : List Channel) (i : ℕ) {a b : Bool} → i < length l → a ≡ all_quiet (take i l)
+    → b ≡ quiet_channel (get_or l i idle_channel)
+    → both a b ≡ all_quiet (take (i + 1) l)
+quiet-more l i h e f = rw (e, f, add-one i) (quiet-suc l i h)
+
+pub quiet-whole : (l : List Channel) (i : ℕ) → length l ≤ i → all_quiet (take i l) ≡ all_quiet l
+quiet-whole l i h = ap all_quiet (take_all i l h)
 
 -- ---- the engines' steps
 

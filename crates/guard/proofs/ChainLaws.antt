@@ -1,5 +1,6 @@
 -- What the judges of chains come to, in the form that the functions' proofs cite. Assumes nothing.
---     number-single, number-chain    the number of what is said of a chain, over a copy of the words in use too
+--     verdict-used                   what is said of a chain, over a copy of the words in use
+--     number-single, number-chain    its number, over a copy of the words in use too
 --     over-refused, over-taken       a chain: refused, or handed over
 --     append-refused, append-taken   an append
 use Rattle.std.proofs.Common.{◌≡◌, ℕ, List, refl, ap, ◌∙◌, Result, ne_eqb}
@@ -13,6 +14,12 @@ use Rattle.book.specs.HandOver.{Uses, taken_from}
 use Rattle.guard.specs.Rulings.{handed_over, appended}
 use Rattle.guard.proofs.GivesLaws.{refusal-some}
 
+pub verdict-used : (side : Side) (kinds : List ℕ) (w : ℕ → ℕ) (u met met2 : List ℕ) (p : ℕ) (c : Result Unit Said) → met ≡ u
+    → (c, met2) ≡ verdict_of side kinds w met p
+    → c ≡ (verdict_of side kinds w u p).0
+verdict-used side kinds w u met met2 p c em ev =
+    ap (λ (x : Result Unit Said × List ℕ). x.0) ev ∙ ap (λ (l : List ℕ). (verdict_of side kinds w l p).0) em
+
 module _ (side : Side) (kinds : List ℕ) (w : ℕ → ℕ) (u : List ℕ) (p : ℕ) where
   abbrev number : ℕ
   number = (chain_of kinds w (place_of side) u p).0
@@ -22,8 +29,7 @@ module _ (side : Side) (kinds : List ℕ) (w : ℕ → ℕ) (u : List ℕ) (p : 
 
   pub number-chain : {v : Result Unit Said} {n : ℕ} {met l : List ℕ} → met ≡ u → (v, l) ≡ verdict_of side kinds w met p
       → n ≡ verdict_number v → n ≡ number
-  number-chain s e f =
-      number-single (ap (λ (x : Result Unit Said × List ℕ). x.0) e ∙ ap (λ (l : List ℕ). (verdict_of side kinds w l p).0) s) f
+  number-chain {v} {n} {met} {l} s e f = number-single (verdict-used side kinds w u met l p v s e) f
 
   pub over-refused : (l : List ℕ) (r : Refusal) → refusal_number r ≡ number
       → (refusal_number r, (u, l)) ≡ handed_over side kinds w (u, l) p

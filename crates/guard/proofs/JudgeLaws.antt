@@ -1,17 +1,18 @@
 -- What the judges' definitions say, case by case, in the form that the functions' proofs cite. Assumes nothing.
 --     last_of-is, last_none, last-stop, last-go   the last descriptor of a queue, step by step, by the numbers of words
 --     last-test, last-no                         whether it begins at a word
---     tail-bound                                 a queue whose last descriptor begins at a word is one of them
+--     tail-here, tail-next, tail_none            the queue whose last descriptor begins at a word, number by number
+--     tail-bound                                 it is one of them
 --     word-found, word-none                      the word at an address
 use Rattle.std.proofs.Common.{◌≡◌, ℕ, zero, suc, ◌+◌, ◌-◌, ◌/◌, ◌%◌, ◌<◌, ◌≤◌, Bool, true, false, eqb, List}
-use Rattle.std.proofs.Common.{[], ◌∷◌, length, take, sym, Option, Some, None}
+use Rattle.std.proofs.Common.{[], ◌∷◌, length, get_or, take, drop, sym, Option, Some, None}
 use Rattle.std.proofs.lemmas.List.{length-take}
-use Rattle.std.proofs.Common.{refl, ap, ◌∙◌, arith, eq-eqb, ne_eqb, eqb-true}
+use Rattle.std.proofs.Common.{refl, ap, ◌∙◌, arith, eq-eqb, ne_eqb, eqb-true, add-one}
 use borrow.Author.Tests.{eqb-false}
 use Rattle.layout.specs.Choice.{pick, both}
 use Rattle.layout.specs.Layout.{desc_first, good_ptr, word_of, addr, desc_words, in_descriptors}
-use Rattle.layout.proofs.ChoiceLaws.{both_left, both_right}
-use Rattle.layout.proofs.PointerLaws.{good_ptr-is, word_of-addr, in_descriptors-bounds}
+use Rattle.layout.proofs.ChoiceLaws.{clash, both_left, both_right}
+use Rattle.layout.proofs.PointerLaws.{good_ptr-is, good_ptr-zero, word_of-addr, in_descriptors-bounds}
 use Rattle.guard.specs.Judges.{last_from, last_of, is_last, tail_in}
 
 -- ---- the last descriptor
@@ -70,6 +71,53 @@ last-test w head k r {i} g f e =
         at false q = sym (ne_eqb (addr x) (addr y) (λ z. eqb-false x y q (omega arith)))
 
 -- ---- which queue
+-- 0 names no descriptor: a head past the end of the table ends no queue
+last-zero : (w : ℕ → ℕ) (k : ℕ) → is_last w 0 k ≡ false
+unfolding is_last
+last-zero w k = rw good_ptr-zero refl
+
+-- a head of the first n words of a table
+pub get_d_head : (n : ℕ) (t : List ℕ) (q : ℕ) → q < n → get_or (take n t) q 0 ≡ get_or t q 0
+get_d_head zero t q h = absurd (omega arith)
+get_d_head (suc n) [] q h = refl
+get_d_head (suc n) (x ∷ t) zero h = refl
+get_d_head (suc n) (x ∷ t) (suc q) h = get_d_head n t q (omega arith)
+
+module _ (w : ℕ → ℕ) (k : ℕ) where
+  tail-here-at : (n : ℕ) (hs : List ℕ) (q : ℕ) → is_last w (get_or hs q 0) k ≡ true → tail_in w k n (drop q hs) ≡ Some n
+  tail-here-at n [] zero e = clash e (last-zero w k)
+  tail-here-at n [] (suc q) e = clash e (last-zero w k)
+  tail-here-at n (h ∷ hs) zero e = rw e refl
+  tail-here-at n (h ∷ hs) (suc q) e = tail-here-at n hs q e
+
+  tail-next-at : (n : ℕ) (hs : List ℕ) (q : ℕ) → is_last w (get_or hs q 0) k ≡ false
+      → tail_in w k n (drop q hs) ≡ tail_in w k (n + 1) (drop (suc q) hs)
+  tail-next-at n [] zero e = refl
+  tail-next-at n [] (suc q) e = refl
+  tail-next-at n (h ∷ hs) zero e = rw e refl
+  tail-next-at n (h ∷ hs) (suc q) e = tail-next-at n hs q e
+
+  pub tail-here : (t : List ℕ) (n q : ℕ) {o : Option ℕ} → q < n → is_last w (get_or t q 0) k ≡ true → tail_in w k q (drop q (take n t)) ≡ o
+      → Some q ≡ o
+  tail-here t n q h e i = sym (tail-here-at q (take n t) q (rw (get_d_head n t q h) e)) ∙ i
+
+  pub tail-next : (t : List ℕ) (n q : ℕ) {o : Option ℕ} → q < n → is_last w (get_or t q 0) k ≡ false → tail_in w k q (drop q (take n t)) ≡ o
+      → tail_in w k (q + 1) (drop (q + 1) (take n t)) ≡ o
+  tail-next t n q h e i = rw (ap-one (take n t)) (sym (tail-next-at q (take n t) q (rw (get_d_head n t q h) e)) ∙ i)
+    where
+      ap-one : (hs : List ℕ) → drop (q + 1) hs ≡ drop (suc q) hs
+      ap-one hs = rw (add-one q) refl
+
+  tail-none-at : (m n : ℕ) (t : List ℕ) (q : ℕ) → n ≤ q → tail_in w k m (drop q (take n t)) ≡ None
+  tail-none-at m zero t zero h = refl
+  tail-none-at m zero t (suc q) h = refl
+  tail-none-at m (suc n) t zero h = absurd (omega arith)
+  tail-none-at m (suc n) [] (suc q) h = refl
+  tail-none-at m (suc n) (x ∷ t) (suc q) h = tail-none-at m n t q (omega arith)
+
+  pub tail_none : (t : List ℕ) (n q : ℕ) {o : Option ℕ} → n ≤ q → tail_in w k q (drop q (take n t)) ≡ o → None ≡ o
+  tail_none t n q h i = sym (tail-none-at q n t q h) ∙ i
+
 tail-lt : (w : ℕ → ℕ) (k n : ℕ) (hs : List ℕ) (j : ℕ) → tail_in w k n hs ≡ Some j → j < n + length hs
 tail-lt w k n [] j e = cc
 tail-lt w k n (h ∷ hs) j e = at (is_last w h k) (tail_in w k (n + 1) hs) (λ f. tail-lt w k (n + 1) hs j f) e

@@ -1,6 +1,7 @@
 -- A kind change, from its parts. Assumes nothing.
 --     received-front                the last word left out
 --     received-any                  whether a receive buffer touches a block, recorded length by recorded length
+--     reception-found               one that touches it settles the question
 --     touches_none, touches-past    no length is recorded here; the last word begins no descriptor
 --     kind-18 .. kind-0             each number
 --     kind-gives                    the change of one block on a released world
@@ -56,6 +57,16 @@ received-front w b k (suc j) (x ∷ l) e h =
     let i : k + suc j + 1 ≡ k + 1 + j + 1 = omega arith in
     let g : touches b (w (k + 1 + j + 1)) (get_or l j 0) ≡ false = ap (λ (n : ℕ). touches b (w n) (get_or l j 0)) (sym i) ∙ h in
     ap (λ (r : Bool). pick (touches b (w (k + 1)) x) true r) (received-front w b (k + 1) j l (omega arith) g)
+
+received-next : (w : ℕ → ℕ) (b i j : ℕ) (l : List ℕ) → i < length l
+    → received w j (drop i l) b ≡ pick (touches b (w (j + 1)) (get_or l i 0)) true (received w (j + 1) (drop (suc i) l) b)
+received-next w b i j [] h = absurd (omega arith)
+received-next w b zero j (x ∷ l) h = refl
+received-next w b (suc i) j (x ∷ l) h = received-next w b i j l (omega arith)
+
+pub reception-found : (w : ℕ → ℕ) (b i : ℕ) (l : List ℕ) → i < length l → touches b (w (i + 1)) (get_or l i 0) ≡ true
+    → received w i (drop i l) b ≡ true
+reception-found w b i l h e = received-next w b i i l h ∙ rw e refl
 
 pub touches_none : (b lo : ℕ) → touches b lo 0 ≡ false
 unfolding touches

@@ -1,16 +1,19 @@
 -- The first record: its kinds, and a fresh machine with them. Assumes nothing.
+--     first-kinds                N as it is decoded from the part that was lent
 --     ram-is, first-count        what is handed on of a first record
 --     First, first-of, first-room   a first record has few enough kinds, and all of them are there
 --     none-of                  there is none
 --     first-none, first-lines  what is printed where there is none, and where there is one
+--     kinds-lent               the kinds as they are lent
 --     printed-bad, printed-all   the whole input
 use Prim.Native.Nat.{ℕ, suc, ◌+◌, ◌-◌, ◌≤◌, ◌<◌}
 use mathlib.Core.Path.{◌≡◌, refl, ap, ◌∙◌, sym, subst}
 use mathlib.Core.Bool.{Bool, true, false}
 use mathlib.Core.List.{List, [], ◌++◌, append-nil}
+use native.Mathlib.Nat.{zero-add}
 use native.Mathlib.Omega.{arith}
 use lib.ListN.{length, take, drop, length-drop, length-append}
-use lib.Seq.{length-take-le, take-append-le, drop-append-le}
+use lib.Seq.{length-take-le, paste, take-paste, drop-drop, take-take, take-append-le, drop-append-le}
 use lib.Dec.{leb}
 use borrow.Author.Tests.{leb-true}
 use Rattle.std.proofs.Common.{Ok, Err, None, Some}
@@ -29,7 +32,7 @@ use Rattle.records.proofs.SizeLaws.{same_found}
 use Rattle.replay.specs.Replay.{replay_for, replay_first, replay}
 use Rattle.window.specs.declared.Window.{Window}
 use Rattle.window.specs.Window.{window_of, Inside, Passed}
-use Rattle.window.proofs.WindowLaws.{length-window, window-pass}
+use Rattle.window.proofs.WindowLaws.{window-part, length-window, window-pass}
 use Rattle.player.specs.declared.Run.{Run}
 use Rattle.player.specs.declared.Last.{Last}
 use Rattle.player.specs.Stands.{replay_from, MayCome, Enough, Lines, Stands, Holds}
@@ -38,6 +41,10 @@ use Rattle.player.proofs.StandLaws.{Ends}
 use Rattle.player.proofs.ReplayLaws.{fuel, decode-more}
 
 -- ---- what is decoded
+
+pub first-kinds : (w : Window) (x : List ℕ) (d : Decoded) → d ≡ decode true (take (w.len - w.from) (drop w.from x))
+    → kinds_in d ≡ kinds_in (decode true (window_of w x))
+first-kinds w x d e = ap (λ (z : Decoded). kinds_in z) (e ∙ ap (λ (l : List ℕ). decode true l) (window-part w x))
 
 module _ (bs : List ℕ) where
   abbrev RamFits : Decoded → Type 0
@@ -166,6 +173,23 @@ printed-bad w x y y' end h e z =
     }
 
 -- ---- a fresh machine with the first record's kinds
+
+-- the kinds as they are lent: the first n of the table
+pub kinds-lent : (w : Window) (x old new : List ℕ) (n : ℕ) → Inside w x → 4 + n ≤ length (window_of w x) → n ≤ length old
+    → new ≡ paste old 0 (drop (w.from + 4) x) n → take (n - 0) (drop 0 new) ≡ take n (drop 4 (window_of w x))
+kinds-lent w x old new n h g f e =
+    let from = w.from + 4 in
+    let v : Window = record { from = from; len = w.len; ended = w.ended } in
+    let k : n - 0 ≡ n = omega arith in
+    let long : w.from + 4 + n ≤ w.len = omega (arith, g, length-window w x h, h.order) in
+    let l : n ≤ length (drop from x) = simp length-drop (omega (arith, long, h.within)) in
+    ap (λ (i : ℕ). take i new) k
+    ∙ ap (λ (c : List ℕ). take n c) e
+    ∙ ap (λ (i : ℕ). take i (paste old 0 (drop from x) n)) (sym (zero-add n))
+    ∙ take-paste old 0 (drop from x) n (omega arith) l
+    ∙ sym (take-take n (w.len - from) (drop from x) (omega (arith, long)))
+    ∙ ap (λ (c : List ℕ). take n c) (window-part v x)
+    ∙ ap (λ (c : List ℕ). take n c) (sym (drop-drop 4 w.from (take w.len x)))
 
 -- the run behind the first record
 pub record Begun (w : Window) (n : ℕ) (r : Run) : Type 0 where

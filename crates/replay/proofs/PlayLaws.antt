@@ -2,6 +2,8 @@
 --     write-plays, kind-plays, frame-plays, step-goes   what happened in one operation, and its line
 --     goes_none, goes-more        no step; one more behind those made
 --     ram-plays, steps-plays      a `Ram` record, a `Steps` record
+--     steps-goes                  a `Steps` record, whatever kinds, small state, words in use and lengths
+--     record-plays                the record that was met
 --     line-end                    how far a line reaches
 use Prim.Native.Nat.{ℕ, zero, suc, ◌+◌, ◌≤◌}
 use mathlib.Core.Path.{◌≡◌, refl, ap, ◌∙◌, sym, subst}
@@ -17,6 +19,7 @@ use Rattle.controller.specs.declared.Controller.{Controller}
 use Rattle.machine.specs.declared.After.{After}
 use Rattle.machine.specs.Machine.{Machine, Happened, step, apply, apply_write, apply_kind, apply_frame, apply_step}
 use Rattle.machine.specs.After.{machine_at, Leaves, Moves as Carries}
+use Rattle.records.specs.declared.Record.{Record}
 use Rattle.records.specs.declared.Record.TheVariants.{Ram, Write, Kind, Frame, Steps}
 use Rattle.records.specs.declared.Event.{Event}
 use Rattle.records.specs.declared.Event.TheVariants.{Wrote, Changed, Framed, Moved}
@@ -139,3 +142,12 @@ pub steps-plays : (e : Engine) (n : ℕ) (s : Machine) {r : Played} {m k t u l x
     → Plays (steps_of e n s) r m k t u l x at y → Plays (record_of (Steps e n) s) r m k t u l x at y
 unfolding record_of
 steps-plays e n s p = p
+
+pub steps-goes : (e : Engine) (n : ℕ) (c : Controller) (m : List ℕ) (r : Played) (m1 x : List ℕ) (at : ℕ) (y : List ℕ)
+    → Goes (steps_of e n) c m r m1 x at y → Goes (record_of (Steps e n)) c m r m1 x at y
+unfolding record_of
+steps-goes e n c m r m1 x at y f k t u l = f k t u l
+
+pub record-plays : (v w : Record) → v ≡ w → (s : Machine) (r : Played) (m k t u l x : List ℕ) (at : ℕ) (y : List ℕ)
+    → Plays (record_of w s) r m k t u l x at y → Plays (record_of v s) r m k t u l x at y
+record-plays v w e s r m k t u l x at y p = subst (λ (z : Record). Plays (record_of z s) r m k t u l x at y) (sym e) p
