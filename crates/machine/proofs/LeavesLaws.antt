@@ -42,8 +42,8 @@ module _ (a v : ℕ) (c : Controller) (x : Answer) (m : List ℕ) (n : ℕ) (i :
   unfolding reached_by
   carry-kept h r e = rw (← i, ne_eqb n 0 h) (ap (λ (y : After). (y, m)) e)
 
-  pub carry-met : n ≡ 0 → (s : Stepped) (m' : List ℕ) → outcome s m' ≡ unguarded_write a v c m → (r : After)
-      → r ≡ met s.ctl (fault s.answer) x
+  pub carry-met : n ≡ 0 → (s : Stepped) (m' : List ℕ) → outcome s m' ≡ unguarded_write a v c m
+      → (r : After) → r ≡ met s.ctl (fault s.answer) x
       → (r, m') ≡ reached_by a v c x m
   unfolding reached_by
   carry-met h s m' o r e = rw (← i, eq-eqb n 0 h, ← o) (ap (λ (y : After). (y, m')) e)
