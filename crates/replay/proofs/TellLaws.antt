@@ -1,8 +1,8 @@
 -- What happened in a frame and in a step, by its one event, whether or not a line is printed for it. Assumes nothing.
 --     Happening                 the controller afterwards, and the event
 --     Tells p h m k t u l       what happened: one event and the controller h, and the tables m k t u l
---     MovesOn f c m h m'        the same of a result of the controller alone, whatever kinds, small state, words in use and lengths there are
---     frame-tells, step-tells   a frame, a step
+--     MovesOn f c m h m'        the same of a result of the controller alone, whatever kinds, small state, words in use and lengths
+-- there are     frame-tells, step-tells   a frame, a step
 use Rattle.std.proofs.Common.{◌≡◌, ℕ, List, [], ◌∷◌, ap, sym, ◌∙◌, refl}
 use Rattle.guard.specs.Answers.{number_of}
 use Rattle.phases.specs.declared.Burst.{Burst}
