@@ -87,7 +87,7 @@ gives_as e g = record {
 }
 
 -- what a store to a free word tells
-store_word : (w : ℕ → ℕ) (t u : List ℕ) (a : ℕ) → plain_store a w t u ≡ true
+pub store_word : (w : ℕ → ℕ) (t u : List ℕ) (a : ℕ) → plain_store a w t u ≡ true
     → (a % 4 ≡ 0) × (in_descriptors a ≡ true) × (has u ((a - desc_first) / 4) ≡ false) × (quiet w t ≡ true)
 unfolding free_word
 store_word w t u a p =
