@@ -24,10 +24,7 @@ use Rattle.layout.specs.Choice.{pick}
 use Rattle.layout.proofs.ChoiceLaws.{both_right}
 use Rattle.layout.specs.Refusals.{refusal_number}
 use Rattle.layout.specs.declared.refusals.Refusal.{Refusal}
-use Rattle.layout.specs.declared.refusals.Refusal.TheVariants.{Unfit, Unsound, Misaligned, NotGuarded, NotOffered, NotInitialised}
-use Rattle.layout.specs.declared.refusals.Refusal.TheVariants.{ResetPending, TeardownPending, BadValue, Busy, WordInUse, BadPointer}
-use Rattle.layout.specs.declared.refusals.Refusal.TheVariants.{Overlap, Flags, BadLength, NotPermitted, Unfinished, NoBlock, BadKind}
-use Rattle.layout.specs.declared.refusals.Refusal.TheVariants.{NotLinux, InReception, Undefined, BadFrame, Dropped}
+use Rattle.layout.proofs.RefusalLaws.{refusal-some}
 use Rattle.layout.specs.Run.{Next, go, stop, after}
 use Rattle.layout.specs.Layout.{good_ptr, word_of}
 use Rattle.layout.specs.declared.Side.{Side}
@@ -68,37 +65,11 @@ step-refused kinds w pl met p n is v z h e =
 
 -- ---- what the leaf hands on
 
-refuses : (r : Refusal) → refusal_number r ≢ 0
-refuses Unfit = λ z. absurd (omega arith)
-refuses Unsound = λ z. absurd (omega arith)
-refuses Misaligned = λ z. absurd (omega arith)
-refuses NotGuarded = λ z. absurd (omega arith)
-refuses NotOffered = λ z. absurd (omega arith)
-refuses NotInitialised = λ z. absurd (omega arith)
-refuses ResetPending = λ z. absurd (omega arith)
-refuses TeardownPending = λ z. absurd (omega arith)
-refuses BadValue = λ z. absurd (omega arith)
-refuses Busy = λ z. absurd (omega arith)
-refuses WordInUse = λ z. absurd (omega arith)
-refuses BadPointer = λ z. absurd (omega arith)
-refuses Overlap = λ z. absurd (omega arith)
-refuses Flags = λ z. absurd (omega arith)
-refuses BadLength = λ z. absurd (omega arith)
-refuses NotPermitted = λ z. absurd (omega arith)
-refuses Unfinished = λ z. absurd (omega arith)
-refuses NoBlock = λ z. absurd (omega arith)
-refuses BadKind = λ z. absurd (omega arith)
-refuses NotLinux = λ z. absurd (omega arith)
-refuses InReception = λ z. absurd (omega arith)
-refuses Undefined = λ z. absurd (omega arith)
-refuses BadFrame = λ z. absurd (omega arith)
-refuses Dropped = λ z. absurd (omega arith)
-
 module _ (kinds : List ℕ) (w : ℕ → ℕ) (pl : Place) (met : List ℕ) (p : ℕ) where
   pub judged_refused : (r : Refusal) → refusal_number r ≡ fault_at kinds w pl met p
       → judged pl p (Err r) met ≡ judge_step kinds w (pl, met, p)
   unfolding judged
-  judged_refused r e = sym (fault_at-step kinds w pl met p ∙ rw (← e, ne_eqb (refusal_number r) 0 (refuses r)) refl)
+  judged_refused r e = sym (fault_at-step kinds w pl met p ∙ rw (← e, ne_eqb (refusal_number r) 0 (refusal-some r)) refl)
 
   pub judged_met : (k : ℕ) (d : Descriptor) (l : List ℕ) → 0 ≡ fault_at kinds w pl met p → k ≡ word_of p → d ≡ desc_at w k
       → l ≡ add_four met k

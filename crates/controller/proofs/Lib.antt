@@ -1,4 +1,3 @@
-pub mod AnswerLaws
 pub mod StepLaws
 pub mod EntryLaws
 pub mod UniqueLaws

@@ -10,7 +10,7 @@ use Rattle.controller.specs.declared.Controller.{Controller}
 use Rattle.phases.specs.declared.Engine.{Engine}
 use Rattle.controller.specs.declared.Stepped.{Stepped}
 use Rattle.controller.specs.declared.Arrived.{Arrived}
-use Rattle.controller.proofs.AnswerLaws.{fault-unique}
+use Rattle.layout.proofs.RefusalLaws.{fault-unique}
 use Rattle.controller.specs.Controller.{StepDone, outcome, step_of, Framed, arrival, frame_of, unguarded_write, fresh_controller}
 
 pub outcome-unique : (o : StepDone) (r s : Stepped) (x y : List ℕ) → outcome r x ≡ o → outcome s y ≡ o → (r ≡ s) × (x ≡ y)

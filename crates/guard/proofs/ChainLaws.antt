@@ -12,7 +12,7 @@ use Rattle.chain.specs.Chain.{place_of, chain_of, Said, verdict_of, verdict_numb
 use Rattle.chain.proofs.VerdictLaws.{verdict-number}
 use Rattle.book.specs.HandOver.{Uses, taken_from}
 use Rattle.guard.specs.Rulings.{handed_over, appended}
-use Rattle.guard.proofs.GivesLaws.{refusal-some}
+use Rattle.layout.proofs.RefusalLaws.{refusal-some}
 
 pub verdict-used : (side : Side) (kinds : List ℕ) (w : ℕ → ℕ) (u met met2 : List ℕ) (p : ℕ) (c : Result Unit Said) → met ≡ u
     → (c, met2) ≡ verdict_of side kinds w met p

@@ -15,6 +15,7 @@ use Rattle.std.proofs.Common.{refl, ap, ◌∙◌}
 use Rattle.std.proofs.Common.{arith, le-ltb, lt-ltb, eq-eqb, ne_eqb, eqb-true}
 use borrow.Author.Tests.{not-true, not-false}
 use Rattle.layout.specs.Choice.{pick, both}
+use Rattle.layout.proofs.RefusalLaws.{refusal-some}
 use Rattle.layout.specs.Layout.{desc_first, desc_bytes, in_descriptors, queues, side_of, channel_of}
 use Rattle.layout.specs.Class.{class_at, hdp_class}
 use Rattle.layout.specs.Refusals.{refusal_number}
@@ -40,10 +41,6 @@ use Rattle.guard.specs.Judges.{judge}
 use Rattle.guard.specs.Guard.{state_fault, admitted, guest_write}
 use Rattle.book.proofs.QuietLaws.{release-quiet}
 use Rattle.guard.specs.Rulings.{handed_over, appended, ruled, free_word, plain_store}
-
--- a refusal has a number of its own
-pub refusal-some : (r : Refusal) → refusal_number r ≢ 0
-refusal-some r = grind arith
 
 -- a choice by a number that was found
 number-yes : {A : Type 0} (n : ℕ) (x y : A) → n ≡ 0 → pick (eqb n 0) x y ≡ x

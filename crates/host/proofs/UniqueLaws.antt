@@ -11,7 +11,7 @@ use Rattle.phases.specs.declared.Engine.{Engine}
 use Rattle.controller.specs.declared.Stepped.{Stepped}
 use Rattle.controller.specs.declared.Arrived.{Arrived}
 use Rattle.controller.specs.Controller.{outcome, step_of, arrival, frame_of}
-use Rattle.controller.proofs.AnswerLaws.{fault-unique}
+use Rattle.layout.proofs.RefusalLaws.{fault-unique}
 use Rattle.controller.proofs.UniqueLaws.{outcome-unique, arrival-unique}
 use Rattle.host.specs.declared.Told.{Told}
 use Rattle.host.specs.Host.{Tells, told_of, tells}

@@ -29,7 +29,8 @@ use Rattle.guard.specs.declared.Answer.{Answer}
 use Rattle.guard.specs.declared.Answer.TheVariants.{Accepted, Refused}
 use Rattle.guard.specs.Answers.{accept, refuse, answer_to, world_at, Gives}
 use Rattle.guard.specs.Guard.{state_fault}
-use Rattle.guard.proofs.GivesLaws.{refusal-some, gives_as, admitted-refused, admitted-passed, admitted-sound}
+use Rattle.layout.proofs.RefusalLaws.{refusal-some}
+use Rattle.guard.proofs.GivesLaws.{gives_as, admitted-refused, admitted-passed, admitted-sound}
 use Rattle.kinds.specs.Kinds.{received, in_reception, kind_number, judge_kind, kind_change}
 use Rattle.kinds.specs.Parts.{kind_outcome}
 

@@ -4,7 +4,8 @@ use Rattle.std.proofs.lemmas.Result.{err_from_is_err_and}
 use Rattle.layout.specs.Layout.{queues}
 use Rattle.words.specs.Word.{word}
 use Rattle.guard.proofs.JudgeLaws.{tail-bound}
-use Rattle.guard.proofs.GivesLaws.{last-nobody, last-append, refusal-some, answer-refused, answer-accepted}
+use Rattle.layout.proofs.RefusalLaws.{refusal-some}
+use Rattle.guard.proofs.GivesLaws.{last-nobody, last-append, answer-refused, answer-accepted}
 use Rattle.guard.proofs.judge_last.Goals as goal
 
 pub returns-in_default : goal.returns-in_default

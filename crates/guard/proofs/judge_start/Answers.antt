@@ -1,7 +1,8 @@
 -- `guard::judge_start`: the chain, then head and HDP. Assumes nothing.
 use Rattle.std.proofs.Common.{refl}
 use Rattle.std.proofs.lemmas.Result.{err_from_is_err_and}
-use Rattle.guard.proofs.GivesLaws.{refusal-some, start-refused, start-taken}
+use Rattle.layout.proofs.RefusalLaws.{refusal-some}
+use Rattle.guard.proofs.GivesLaws.{start-refused, start-taken}
 use Rattle.guard.proofs.judge_start.Goals as goal
 
 pub returns-in_err-hand_over : goal.returns-in_err-hand_over

@@ -3,7 +3,8 @@ use Rattle.std.proofs.Common.{sym, ap, ◌∙◌}
 use Rattle.std.proofs.lemmas.Result.{err_from_is_err_and}
 use Rattle.guard.specs.declared.Effect.TheVariants.{Plain}
 use Rattle.guard.specs.Answers.{answer_to}
-use Rattle.guard.proofs.GivesLaws.{refusal-some, answer-refused, answer-accepted}
+use Rattle.layout.proofs.RefusalLaws.{refusal-some}
+use Rattle.guard.proofs.GivesLaws.{answer-refused, answer-accepted}
 use Rattle.guard.proofs.judge_zero.Goals as goal
 
 pub returns-in_err-zero_fault : goal.returns-in_err-zero_fault

@@ -2,7 +2,8 @@
 use Rattle.std.proofs.Common.{sym, refl}
 use Rattle.std.proofs.lemmas.Result.{err_from_is_err_and}
 use Rattle.book.proofs.ReleaseLaws.{release-parts}
-use Rattle.guard.proofs.GivesLaws.{refusal-some, answer-refused, answer-accepted}
+use Rattle.layout.proofs.RefusalLaws.{refusal-some}
+use Rattle.guard.proofs.GivesLaws.{answer-refused, answer-accepted}
 use Rattle.kinds.proofs.KindLaws.{kind-gives, kind-released}
 use Rattle.kinds.proofs.change_released.Goals as goal
 

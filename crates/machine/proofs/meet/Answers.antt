@@ -3,7 +3,7 @@ use Prim.Native.Nat.{ℕ}
 use mathlib.Core.Path.{sym, ap, ◌∙◌}
 use Rattle.layout.specs.Refusals.{fault}
 use Rattle.guard.specs.declared.Answer.TheVariants.{Refused}
-use Rattle.controller.proofs.AnswerLaws.{refusal-some}
+use Rattle.layout.proofs.RefusalLaws.{refusal-some}
 use Rattle.machine.specs.After.{left_alone}
 use Rattle.machine.proofs.LeavesLaws.{met-kept, met-refused}
 use Rattle.machine.proofs.meet.Goals as goal

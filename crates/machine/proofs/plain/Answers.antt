@@ -1,7 +1,7 @@
 -- `machine::plain` meets its contract: a refusal's number is not 0. Assumes nothing.
 use borrow.Author.Tests.{ne_eqb}
 use Rattle.guard.specs.Answers.{answer_to}
-use Rattle.controller.proofs.AnswerLaws.{refusal-some}
+use Rattle.layout.proofs.RefusalLaws.{refusal-some}
 use Rattle.machine.proofs.plain.Goals as goal
 
 pub returns-in-Ok : goal.returns-in-Ok

@@ -15,7 +15,7 @@ use Rattle.layout.specs.declared.refusals.Refusal.TheVariants.{NotGuarded}
 use Rattle.registers.specs.Rules.{written}
 use Rattle.controller.specs.declared.Controller.{Controller}
 use Rattle.controller.specs.Controller.{answer, begun_by, set_state, starts_engine, register_write}
-use Rattle.controller.proofs.AnswerLaws.{fault-unique, refusal-some}
+use Rattle.layout.proofs.RefusalLaws.{fault-unique, refusal-some}
 use Rattle.controller.proofs.Controller.write_class.Goals as goal
 
 -- a start leaves the table

@@ -1,4 +1,4 @@
--- An answer is known from its number. Assumes nothing.
+-- An answer is known from its number, and no refusal has the number 0. Assumes nothing.
 --     fault-unique      answers of the same number are the same
 --     refusal-some      a refusal's number is not 0
 use Prim.Native.Nat.{ℕ}
