@@ -43,25 +43,41 @@ def items_of(text):
 
 def types_of(text):
     """A source file without functions and modules, with the imports that its types and constants use."""
-    kept, uses = [], []
+    kept, uses, ghosts = [], [], []
     for lines in items_of(text):
         first = next((line for line in lines if not line.startswith(("//", "#["))), lines[0])
         whole = " ".join(line.strip() for line in lines if not line.startswith("//"))
         if re.match(r"(?:pub )?use ", first):
             uses += [(path, name.strip()) for path, many, one in NAMES.findall(whole) for name in (many or one).split(",") if name.strip()]
-        elif not LEFT_OUT.match(first) and not re.match(r"ghost use |(?:pub )?mod ", first):
+        elif first.startswith("ghost use "):
+            ghosts += [(path, name) for path, many in re.findall(r"ghost use ([\w.]+)\.\{([^}]*)\};", whole) for name in many.split(", ")]
+        elif not LEFT_OUT.match(first) and not re.match(r"(?:pub )?mod ", first):
             kept += ["", *lines]
     body = "\n".join(kept)
     bare = re.sub(r"//.*", "", body)
     names = ["use %s::%s;" % (path, name) for path, name in uses if not path.startswith("crate") and re.search(r"\b%s\b" % re.escape(name), bare)]
+    # what a fact in a type names
+    facts = " ".join(re.findall(r"\{ (.*) \}", bare))
+    names += ["ghost use %s.{%s};" % (path, name) for path, name in ghosts if name.strip("◌") in facts.split()]
     return body + "\n", names
 
 
 def cut_source(source, target):
+    """The types of lib.rt, and those of each module that has some: the module stays, and is asked for its types alone."""
     target.mkdir(parents=True)
-    body, uses = types_of((source / "lib.rt").read_text())
+    whole = (source / "lib.rt").read_text()
+    body, uses = types_of(whole)
+    modules = []
+    for path in sorted(source.glob("*.rt")):
+        kept, names = types_of(path.read_text())
+        types = re.findall(r"^pub (?:struct|enum|type|const) (\w+)", kept, re.M)
+        if path.name != "lib.rt" and types:
+            (target / path.name).write_text("\n".join(names) + kept)
+            modules.append("mod %s;" % path.stem)
+            asked = {name for many, one in re.findall(r"^pub use %s::(?:\{([^}]*)\}|(\w+));" % path.stem, whole, re.M) for name in (many or one).split(", ")}
+            modules += ["pub use %s::%s;" % (path.stem, name) for name in types if name in asked]
     at = body.index("#![tactic(auto)]") + len("#![tactic(auto)]")
-    (target / "lib.rt").write_text(body[:at].lstrip("\n") + "\n\n" + "\n".join(uses) + body[at:])
+    (target / "lib.rt").write_text(body[:at].lstrip("\n") + "\n\n" + "\n".join(modules + uses) + body[at:])
 
 
 def laws_needed(repo, names, roots):

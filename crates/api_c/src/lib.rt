@@ -1,5 +1,5 @@
 // The functions of api as symbols for C: the archive target/lib/libgresomund.a, whose header is include/gresomund.h.
-// Promises: each function says what api's function of the same name says, and calls it.
+// Promises: each function says what api's function of the same name says, and calls it: a crate is a library or a static library.
 // Document 01, "Answers by number".
 
 #![tactic(auto)]

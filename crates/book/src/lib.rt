@@ -51,7 +51,8 @@ fn meet_at(m: &Memory, met: &mut Words, p: u32) -> Option<u32>
     Some(words::word_of(m, d.word))
 }
 
-// Whether the chain from p ends at 0 over good pointers, no word met twice.
+// Whether the chain from p ends at 0 over good pointers, no word met twice. The three walks of this file stay three: each does another
+// thing at a descriptor, with other tables lent.
 fn walk_from(m: &Memory, met: &mut Words, mut p: u32) -> bool
     ensures { (result, met.new) ≡ walk_from (word m.now) met.old p }
 {

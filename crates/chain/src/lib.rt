@@ -3,8 +3,8 @@
 // first faulty descriptor and, with 16, the block that bars its buffer. Either way the words met grow by those of the descriptors
 // before the fault. A chain of one descriptor has a way of its own, which asks the words in use and makes no set of words met.
 // Document 01, "Judging" and "Answers by number".
-// The start of a packet has one rule and its middle another, each handing on to the other. What they hand on is thin and what they
-// answer is a number, so that the call of a rule by a rule is compiled to a jump and no chain makes the stack grow.
+// The start of a packet has one rule and its middle another, each handing on to the other, as document 01 names it. What they hand on is
+// thin and what they answer is a number, so that the call of a rule by a rule is compiled to a jump and no chain makes the stack grow.
 // Memory and kinds go side by side: a struct of both, made in this crate alone, would stand before either name in every clause.
 
 #![tactic(auto)]
@@ -23,7 +23,8 @@ use blocks::Room;
 use descriptor::{Descriptor, Flag, Place, descriptor_at, has_flag};
 use layout::{Memory, Refusal, Side, Words, slot_at};
 
-// What is wrong with a chain: the refusal, the descriptor (or the bad pointer), and what the blocks say to the buffer there.
+// What is wrong with a chain: the refusal, the descriptor (or the bad pointer), and what the blocks say to the buffer there: `Free` too
+// where they were not asked, as the definition `said` has it.
 #[derive(Drop)]
 pub struct Fault {
     pub refusal: Refusal,
@@ -129,7 +130,7 @@ fn middle_rule(m: &Memory, kinds: &&[u8], met: &mut Words, at: u32, sop: u32, su
     }
 }
 
-// The receive chain from at.
+// The receive chain from at. A recursion like the transmit rules, though 01 names none here: the same laws then hold of it as they stand.
 #[tactic(auto, using(crate::proofs::HandLaws::hands))]
 fn receive_rule(m: &Memory, kinds: &&[u8], met: &mut Words, at: u32) -> u64
     ensures { unpacked result (view met.new) ≡ chain_of kinds.now.now (word m.now) Place.Buffer (view met.old) at }

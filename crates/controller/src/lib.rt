@@ -26,7 +26,7 @@ pub struct Channel {
 }
 
 // The controller record. `state` holds registers and flags, as the guard's table does, and no heads; `stages` says for each queue which
-// teardown step comes next (1, 2, else 3), a byte that C lends and has back as it was.
+// teardown step comes next (1, 2, else 3), a byte that C lends and has back as it was, in a table of its own.
 #[derive(Clone, Copy)]
 pub struct Controller {
     pub state: State,

@@ -111,7 +111,7 @@ impl Controller {
         }
     }
 
-    // A start puts the transmit engine at step 1, or the receive engine to waiting.
+    // A start puts the transmit engine at step 1, or the receive engine to waiting. Apart from `set_idle`: other phases, another step.
     pub(crate) fn begin(&mut self, q: usize)
         requires { q < queues }
         ensures { self.new ≡ set_begun q self.old }

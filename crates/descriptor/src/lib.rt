@@ -1,5 +1,5 @@
 // Descriptors: their four words taken apart, and the rules 14, 15 and 17 of one descriptor.
-// Promises: a field is read from the bits that document 01 gives it; each rule gives its refusal number exactly where 01 gives it, by the
+// Promises: a field is read from the bits that document 01 gives it; each rule gives its refusal exactly where 01 gives its number, by the
 // words alone. The guard's chain check and the controller's fetch share them.
 // Document 01, "Memory, blocks and descriptors", "Judging".
 

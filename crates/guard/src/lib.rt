@@ -36,7 +36,7 @@ use registers::{
 use words::{copy_set, is_used, put_at, word_of};
 
 // Descriptor memory, kinds, small state, words in use and lengths always go together, and are no struct: C lends them one by one, and a
-// struct of loans would need a clause on each of its loans in every function.
+// struct of loans would need a clause on each of its loans in every function. Queues and words stay numbers, as they index these tables.
 
 // Where the CPs begin: those that transmit, by channel, and so many bytes behind them those that receive.
 const CP_FIRST: u32 = 0x4A10_0A40;
@@ -79,7 +79,7 @@ pub fn answer_number(a: Answer) -> u8
     }
 }
 
-// A number as an answer, with what the accepted write did.
+// A number as an answer, with what the accepted write did. No crate calls it any more: a public promise that stays.
 pub fn answer_to(e: Effect, n: u8) -> Answer
     ensures { result ≡ answer_to e n }
 {
@@ -109,7 +109,7 @@ fn check_used(s: Side, p: u32, m: &Memory, kinds: &[u8], used: &Words) -> Result
     refusal(check_chain(s, m, kinds, &mut met, p))
 }
 
-// The HDP judge's chain, from p: refused, or handed over.
+// The HDP judge's chain, from p: refused, or handed over. Taken apart by `let .. else`, here and below, as document 01 names it.
 fn hand_over(
     s: Side,
     p: u32,
@@ -268,7 +268,7 @@ fn judge_class(
     }
 }
 
-// The last descriptor from the one at a slot on.
+// The last descriptor from the one at a slot on. So many turns at most: in a book that is not sound the pointers may run in a ring.
 fn last_from(m: &Memory, first: Slot) -> Slot
     ensures { addr result.word ≡ last_of (word m.now) (addr first.word) }
 {

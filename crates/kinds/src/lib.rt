@@ -27,7 +27,7 @@ const KIND_MAX: u32 = 4;
 // The last word of descriptor memory, at which no descriptor begins.
 const LAST_WORD: usize = DESC_WORDS - 1;
 
-// Whether a receive buffer of the recorded length n, whose descriptor begins at word i, touches block b.
+// Whether a receive buffer of the recorded length n, whose descriptor begins at word i, touches block b. The test of i is its bound.
 fn is_touching(m: &Memory, i: usize, n: u16, b: u32) -> bool
     ensures { result ≡ touches b (word m.now (i + 1)) n }
 {

@@ -59,7 +59,7 @@ fn meet(s: Stepped, answer: Answer) -> After
     }
 }
 
-// What the guard has answered is carried out: an accepted write goes on to the controller.
+// What the guard has answered is carried out: an accepted write goes on to the controller. By its number, since a refusal 0 counts so too.
 fn carry_out(a: u32, v: u32, c: Controller, answer: Answer, m: &mut [u8]) -> After
     ensures { (result, m.new) ≡ reached_by a v c answer m.old }
 {
@@ -69,7 +69,7 @@ fn carry_out(a: u32, v: u32, c: Controller, answer: Answer, m: &mut [u8]) -> Aft
     meet(unguarded_write(c, m, a, v), answer)
 }
 
-// A guest write of v to address a. What it changes is lent one by one, of any size: a record of loans would need a clause for each loan.
+// A guest write of v to address a. What it changes is lent one by one, since memory and kinds may have any size here, a public promise.
 pub fn apply_write(
     a: u32,
     v: u32,

@@ -13,7 +13,7 @@ use descriptor::{Flag, SHORT_END};
 use layout::{Memory, Slot, clear_bit, set_bit};
 use words::{read_word, write_word};
 
-// The flag of word 3 that says that some of a frame was dropped.
+// The flag of word 3 that says that some of a frame was dropped. No case of `Flag`: no rule reads it.
 const OVERRUN: u32 = 22;
 
 // A word with n as its packet length, or as a receive buffer's length.

@@ -15,7 +15,8 @@ ghost use Rattle.std.specs.Prelude.{◌≡◌, Some};
 ghost use Rattle.phases.specs.Engines.{engine_at};
 ghost use Rattle.phases.specs.Steps.{to_phase};
 
-// What one step moves over the bus: nothing, a read burst or a store burst, with its address and number of bytes.
+// What one step moves over the bus: nothing, a read burst or a store burst, with its address and number of bytes. Nothing is a case of its
+// own, as the rig's words and every definition have it: an Option around the other two would be taken apart twice.
 #[derive(Clone, Copy)]
 pub enum Burst {
     Quiet,
@@ -47,7 +48,9 @@ pub fn engine_at(which: u8, channel: u8) -> Engine
     }
 }
 
-// What each phase holds stands whole, though fields repeat: the definitions write it so, and the rig reads it as a row of words.
+// What each phase holds, here and below, stands whole, though fields repeat: the definitions write it so, and the rig reads it as a row of
+// words.
+
 // Transmit step 1 inside a packet: the SOP descriptor's address and word 3, and the lengths so far.
 #[derive(Clone, Copy)]
 pub struct Packet {

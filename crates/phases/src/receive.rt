@@ -1,4 +1,5 @@
-// The receive engine: a method for each phase, which hands back the next phase with the burst made, and the step of any phase.
+// The receive engine: a method for each phase, as document 01 names it, which hands back the next phase with the burst made, and the
+// step of any.
 // Document 01, "The controller's steps", Receive 1 to 6.
 
 ghost use Rattle.std.specs.Prelude.{◌≡◌, ◌+◌, ◌≤◌};

@@ -75,6 +75,8 @@ impl Tables {
     }
 }
 
+// Reader, writer and the two buffers stay apart in every signature: a struct of loans would need a clause on each.
+
 // Writes the lines gathered so far where they are many, and gives how many bytes of them are kept. It fails only where they are many.
 fn flush<W: Write>(to: &mut W, out: &[u8], at: usize) -> io::Result<usize>
     requires { at ≤ length out.now }

@@ -157,7 +157,8 @@ fn decode_first(bs: &[u8]) -> Result<(Record, usize), BadRecord>
     decode_ram(bs)
 }
 
-// What the bytes that are left begin with, with its size: no record where nothing is left. `first`: no record has been read yet.
+// What the bytes that are left begin with, with its size: no record where nothing is left. `first`: no record has been read yet; a flag
+// and not two functions, as the definition `decode` has it.
 pub fn decode_record(bs: &[u8], first: bool) -> Result<Option<(Record, usize)>, BadRecord>
     ensures { result ≡ decode first bs.now }
 {
@@ -205,7 +206,7 @@ fn hex_digit(d: u32) -> u8
     b'A' - 10 + d as u8
 }
 
-// The digits come from the last to the first. No loop of std's: `{:08X}` promises its text only where the write succeeds (reason c).
+// The digits come from the last to the first, by their place. No `{:08X}`: std promises its text only where the write succeeds.
 fn hex8(a: u32) -> [u8; HEX_DIGITS]
     ensures { result ≡ hex8 a }
 {

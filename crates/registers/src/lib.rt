@@ -1,6 +1,6 @@
 // The small state of guard and controller, one table of words, and the rules 4 to 10 of a register write.
-// Promises: each rule gives the lowest number that document 01 gives for the numbers of one queue; after a write without a fault the
-// table is exactly what 01 says. No rule knows how many queues there are, and nothing here knows descriptors, chains or engines.
+// Promises: each rule gives the refusal with the lowest number that document 01 gives, of one queue; after a write without a fault the
+// table is exactly what 01 says. Nothing here knows descriptors, chains or engines.
 // Document 01, "The book and the release", "Judging".
 
 #![tactic(auto)]
@@ -55,7 +55,7 @@ pub const PASSED_LAST: u8 = UNOFFERED - 1;
 
 pub const UNOFFERED_LAST: u8 = UNGUARDED - 1;
 
-// 6 for HDP and CP while initialisation is awaited.
+// 6 for HDP and CP while initialisation is awaited. Apart from `zero_fault`: two rules of document 01, with a number each.
 fn zeroing_fault(v: u32) -> Result<(), Refusal>
     ensures { fault result ≡ zeroing_fault v }
 {

@@ -1,5 +1,5 @@
 // The functions of rig as symbols for C: an archive that tests/probe alone links.
-// Promises: each function says what rig's function of the same name says, and calls it.
+// Promises: each function says what rig's function of the same name says, and calls it: a crate is a library or a static library.
 // Document 01, "The controller's steps".
 
 #![tactic(auto)]

@@ -18,7 +18,8 @@ use layout::{CHANNELS, LENGTH_MAX, Lengths, Memory, Side, Slot, Words, slot_at};
 use registers::{State, are_flags};
 use std::ops::ControlFlow;
 
-// Left where a walk is not as it should be: walks take away by fours, so no multiple of four is ever left from there.
+// Left where a walk is not as it should be: walks take away by fours, so no multiple of four is ever left from there. A number and no
+// Option: the definition counts so, and the last tests ask the count anyway.
 const LOST: u32 = 1;
 
 // How many words are in use, or lost where an entry is over 1. The loop keeps the highest entry and has one way out, so that it is
@@ -35,7 +36,7 @@ fn count_words(used: &Words) -> u32
     if top <= 1 { u32::from(n) } else { LOST }
 }
 
-// How many lengths are recorded.
+// How many lengths are recorded. A loop with a small counter: `filter(..).count()` is compiled to one entry a turn.
 fn count_lengths(lens: &Lengths) -> u32
     ensures { (result ≡ words_in_use lens.now) × (result ≤ desc_words) }
 {
