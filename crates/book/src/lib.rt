@@ -20,7 +20,7 @@ ghost use Rattle.book.specs.Hops.{turned, taken, walked, noted};
 use descriptor::{Flag, has_flag};
 use layout::{
     CHANNELS, LENGTH_MAX, Lengths, Memory, QUEUES, Side, Slot, TEARDOWN_DONE, Words, clear_bit,
-    slot_at,
+    queue_of, slot_at,
 };
 use registers::{
     CP_AT, MARKS_AT, RESET_AT, State, TEARING_AT, are_flags, has_reset_bit, is_any_tearing,
@@ -118,7 +118,7 @@ fn note_heads(m: &Memory, t: &State, firsts: &mut Words)
     ensures { firsts.new ≡ firsts_all (word m.now) (heads_of t.now) firsts.old }
 {
     for c in 0..CHANNELS {
-        note_from(m, firsts, t[2 * c + 1]);
+        note_from(m, firsts, t[queue_of(Side::Receive, c)]);
     }
 }
 

@@ -17,17 +17,6 @@ use phases::transmit::is_quiet_tx;
 use phases::{Burst, Receiving, Sending};
 use registers::{CP_AT, HDP_AT, is_resetting, is_tearing};
 
-// The queue of a side on channel ch.
-pub fn queue_of(side: Side, ch: usize) -> usize
-    requires { ch < channels }
-    ensures { (result ≡ queue_of side ch) × (result < queues) }
-{
-    match side {
-        Side::Transmit => 2 * ch,
-        Side::Receive => 2 * ch + 1,
-    }
-}
-
 impl Channel {
     // Whether both engines are quiet.
     fn is_quiet(&self) -> bool

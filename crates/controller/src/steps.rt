@@ -6,9 +6,9 @@ ghost use Rattle.layout.specs.Layout.{queues, queue_of};
 ghost use Rattle.controller.specs.Controller.{outcome, on_channel, transmit_step, receive_step, tear_mark};
 ghost use Rattle.controller.specs.Controller.{tear_clear, tear_report, tear_step, reset_step};
 
-use crate::record::{are_all_quiet, give, give_undefined, idle_channels, queue_of};
+use crate::record::{are_all_quiet, give, give_undefined, idle_channels};
 use crate::{Controller, Stepped};
-use layout::{CHANNELS, Memory, Side, TEARDOWN_DONE, clear_bit, slot_at};
+use layout::{CHANNELS, Memory, Side, TEARDOWN_DONE, clear_bit, queue_of, slot_at};
 use marks::mark_td;
 use phases::receive::step_receive;
 use phases::transmit::step_transmit;
@@ -130,7 +130,6 @@ pub fn reset_step(mut c: Controller) -> Stepped
     c.state[MARKS_AT] = 0;
     c.state[RESET_AT] = 0;
     c.state[BIT_AT] = 0;
-    let idle = idle_channels();
-    c.channels = idle;
+    c.channels = idle_channels();
     give(c, Ok(()))
 }

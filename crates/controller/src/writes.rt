@@ -8,8 +8,7 @@ ghost use Rattle.layout.specs.Refusals.{fault};
 ghost use Rattle.controller.specs.Controller.{answer, framed, frame_of, set_begun, starts_engine, register_write, unguarded_write};
 
 use crate::Controller;
-use crate::record::queue_of;
-use layout::{DESC_FIRST, HDP, LENGTH_MAX, Refusal, Side, class_at, is_descriptor};
+use layout::{DESC_FIRST, HDP, LENGTH_MAX, Refusal, Side, class_at, is_descriptor, queue_of};
 use phases::receive::is_waiting;
 use phases::{Frame, Receiving};
 use registers::{HDP_LAST, is_awaiting, register_fault, write_register};
@@ -70,6 +69,7 @@ impl Controller {
                 write_register(&mut self.state, n, v);
                 Ok(())
             }
+            // Two matches: behind the pattern `Err(Refusal::NotGuarded)` no fact with a name of its own says that it is another refusal.
             Err(refusal) => match refusal {
                 Refusal::NotGuarded => Err(refusal),
                 _ => {

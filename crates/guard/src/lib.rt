@@ -461,10 +461,7 @@ fn cp_queue(a: u32) -> Option<usize>
     ensures { IfSome result (λ q. (q < queues) × (a ≡ cp_address q)) }
 {
     let d = a.wrapping_sub(CP_FIRST);
-    if 2 * CP_SIDE <= d {
-        return None;
-    }
-    if d % 4 != 0 {
+    if 2 * CP_SIDE <= d || d % 4 != 0 {
         return None;
     }
     let q = (2 * (d % CP_SIDE / 4) + d / CP_SIDE) as usize;

@@ -21,7 +21,8 @@ use layout::{DESC_WORDS, Lengths, Memory, Refusal, Words};
 use registers::State;
 use words::word_of;
 
-// The largest kind. Kinds are numbers: an enum of them would be made of one only to be turned into a byte of the table.
+// The largest kind, as blocks has it of a byte. Kinds are numbers: an enum of them would be made of one only to be turned into a byte of
+// the table.
 const KIND_MAX: u32 = 4;
 
 // The last word of descriptor memory, at which no descriptor begins.

@@ -28,7 +28,7 @@ pub struct After {
     pub burst: Burst,
 }
 
-// What the controller has told, as an answer.
+// What the controller has told, as an answer. A match and no `told.map(..).into()`: the definition goes by the number, told or not.
 fn plain(told: Result<(), Refusal>) -> Answer
     ensures { result ≡ answer_of (fault told) }
 {

@@ -160,7 +160,8 @@ pub enum Receiving {
     Done(Leaving),
 }
 
-// One step of an engine: the next phase, its registers, the burst, and the octets of a packet just done.
+// One step of an engine: the next phase, its registers, the burst, and the octets of a packet just done: 0 and no Option where none is,
+// since the total adds it either way.
 // HDP and CP stay two numbers, here and in the steps: each step moves one or the other, and the definitions name both.
 #[derive(Clone, Copy)]
 pub struct Step<S> {

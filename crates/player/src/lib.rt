@@ -33,7 +33,7 @@ use window::Window;
 const GATHERED: usize = 4096;
 
 // Where the kinds of a first record stand: behind its mark and N.
-const KINDS_AT: usize = 4;
+const KINDS_AT: usize = 4; // as `RAM_HEAD` of records, which is its own
 
 // The tables of a machine: descriptor memory, the guard's small state, words in use and lengths. Its kinds are so many as the first record
 // has, a part of an array, and are lent beside them.

@@ -15,7 +15,7 @@ ghost use Rattle.registers.specs.Rules.{register_fault, head_written, ack_writte
 
 use layout::{
     CHANNELS, CONTROL, CP, HDP, MARKS, PASSED, QUEUES, RESET, Refusal, Side, TEARDOWN,
-    TEARDOWN_DONE, UNGUARDED, UNOFFERED, has_bit, set_bit, side_of,
+    TEARDOWN_DONE, UNGUARDED, UNOFFERED, has_bit, queue_of, set_bit, side_of,
 };
 
 // How many words the table has, and which word is which; the head of queue q is word q. The last two are spare.
@@ -105,10 +105,7 @@ pub fn tear_queue(side: Side, v: u32) -> usize
     ensures { (result ≡ tear_queue (queue_of side 0) v) × (result < queues) }
 {
     let channel = if v < CHANNELS as u32 { v as usize } else { 0 };
-    match side {
-        Side::Transmit => 2 * channel,
-        Side::Receive => 2 * channel + 1,
-    }
+    queue_of(side, channel)
 }
 
 // Whether any register is not yet zeroed.

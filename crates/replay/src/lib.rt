@@ -61,7 +61,7 @@ fn play_steps(e: Engine, n: u8, c: Controller, m: &mut [u8], out: &mut [u8], at:
     ran
 }
 
-// One record on the machine. Its parts come one by one, as machine's operations take them: each reads some and changes some (reason d).
+// One record on the machine. Its parts come one by one, as machine's operations take them: memory and kinds may have any size.
 pub fn play(
     r: Record,
     c: Controller,

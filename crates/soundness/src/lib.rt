@@ -6,7 +6,7 @@
 #![tactic(auto)]
 
 ghost use Rattle.std.specs.Prelude.{◌≡◌, ◌≤◌, ◌<◌};
-ghost use Rattle.layout.specs.Layout.{desc_words, queues, channels, queue_of};
+ghost use Rattle.layout.specs.Layout.{desc_words};
 ghost use Rattle.words.specs.Word.{word};
 ghost use Rattle.words.specs.WordSet.{words_in_use};
 ghost use Rattle.registers.specs.Table.{heads_of};
@@ -14,7 +14,7 @@ ghost use Rattle.book.specs.World.{sound_book};
 ghost use Rattle.soundness.specs.Spent.{ask_length, ask_of, spend_step, spent_from, words_to_meet, left_of};
 ghost use Rattle.soundness.specs.Hops.{spent};
 
-use layout::{CHANNELS, LENGTH_MAX, Lengths, Memory, Side, Slot, Words, slot_at};
+use layout::{CHANNELS, LENGTH_MAX, Lengths, Memory, Side, Slot, Words, queue_of, slot_at};
 use registers::{State, are_flags};
 use std::ops::ControlFlow;
 
@@ -115,17 +115,6 @@ fn walk_from(
     }
 }
 
-// The queue of a side on channel c.
-fn queue_of(side: Side, c: usize) -> usize
-    requires { c < channels }
-    ensures { (result ≡ queue_of side c) × (result < queues) }
-{
-    match side {
-        Side::Transmit => 2 * c,
-        Side::Receive => 2 * c + 1,
-    }
-}
-
 // What all queues of a side leave of them.
 fn walk_heads(
     m: &Memory,
@@ -146,7 +135,8 @@ fn walk_heads(
     rest
 }
 
-// Whether the book is sound. The scratch set is lent, and nothing is promised of what it holds afterwards.
+// Whether the book is sound. The scratch set is lent, and nothing is promised of what it holds afterwards. The clause is that of
+// `book::is_sound`, a public promise that stays beside this one.
 pub fn is_sound(m: &Memory, t: &State, used: &Words, lens: &Lengths, scratch: &mut Words) -> bool
     ensures { result ≡ sound_book (word m.now) t.now used.now lens.now }
 {

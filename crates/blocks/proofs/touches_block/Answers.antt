@@ -1,7 +1,6 @@
 -- `blocks::touches_block` asks whether the range begins before the block's end, and ends after its start. Assumes nothing.
-use Rattle.std.proofs.Common.{◌+◌, ◌*◌, ◌∙◌, ◌≡◌, Bool, true, false, nat_lt, arith, lt-ltb, le-ltb, ltb-true, ltb-false, sym, refl}
+use Rattle.std.proofs.Common.{◌+◌, ◌*◌, ◌∙◌, ◌≡◌, true, false, nat_lt, arith, lt-ltb, le-ltb, ltb-true, ltb-false, sym}
 use Rattle.layout.specs.Layout.{ram_first, block_bytes}
-use Rattle.layout.specs.Choice.{both}
 use Rattle.layout.proofs.ChoiceLaws.{clash}
 use Rattle.blocks.specs.Room.{touches}
 use Rattle.blocks.proofs.touches_block.Goals.{then-len-gt0, else-len-gt0}

@@ -4,4 +4,4 @@ use Rattle.layout.proofs.PointerLaws.{place_is}
 use Rattle.layout.proofs.descriptor_word.Goals as goal
 
 pub returns : goal.returns
-returns c = place_is _ _ (omega arith) c.wrapping_sub_u32-d.ensures.value
+returns c = place_is _ _ (omega arith) (omega (arith, c.ranges.p))
