@@ -40,6 +40,7 @@ fn pack(a: Answer) -> u32
     ensures { result ≡ answer_word a }
 {
     match a {
+        // Two matches: first whether it is accepted, then what it did.
         Answer::Accepted(e) => match e {
             Effect::Plain => PLAIN,
             Effect::Started(s, c) => STARTED + pack_place(s, c),

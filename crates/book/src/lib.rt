@@ -51,7 +51,7 @@ fn meet_at(m: &Memory, met: &mut Words, p: u32) -> Option<u32>
     Some(words::word_of(m, d.word))
 }
 
-// Whether the chain from p ends at 0 over good pointers, no word met twice. The three walks of this file stay three: each does another
+// Whether the chain from p ends at 0 over good pointers, no word met twice. The three loops along a queue stay three: each does another
 // thing at a descriptor, with other tables lent.
 fn walk_from(m: &Memory, met: &mut Words, mut p: u32) -> bool
     ensures { (result, met.new) ≡ walk_from (word m.now) met.old p }
@@ -113,7 +113,8 @@ fn walk_heads(m: &Memory, t: &State, met: &mut Words) -> bool
     good
 }
 
-// The first words of the descriptors of each receive queue are noted: those of odd number.
+// The first words of the descriptors of each receive queue are noted: those of odd number. A turn of its own, as the two over all heads
+// are: each takes other tables along.
 fn note_heads(m: &Memory, t: &State, firsts: &mut Words)
     ensures { firsts.new ≡ firsts_all (word m.now) (heads_of t.now) firsts.old }
 {

@@ -36,7 +36,8 @@ use registers::{
 use words::{copy_set, is_used, put_at, word_of};
 
 // Descriptor memory, kinds, small state, words in use and lengths always go together, and are no struct: C lends them one by one, and a
-// struct of loans would need a clause on each of its loans in every function. Queues and words stay numbers, as they index these tables.
+// struct of loans would need a clause on each of its loans in every function. Queues and words stay numbers, as they index these tables,
+// and address and value are two, as C hands them.
 
 // Where the CPs begin: those that transmit, by channel, and so many bytes behind them those that receive.
 const CP_FIRST: u32 = 0x4A10_0A40;
@@ -347,7 +348,7 @@ fn judge_word(
     judge_last(k, v, m, kinds, t, used, lens)
 }
 
-// The word of descriptor memory whose address is a, if it is one's.
+// The word of descriptor memory whose address is a, if it is one's. The sum is layout's `word_number`, which asks for a good pointer.
 fn word_at(a: u32) -> Option<usize>
     ensures { result
         ≡ pick (both (in_descriptors a) (a % 4 == 0)) (Some ((a - desc_first) / 4)) None }

@@ -38,8 +38,8 @@ fn is_touching(m: &Memory, i: usize, n: u16, b: u32) -> bool
     touches_block(b, word_of(m, i + 1), u32::from(n))
 }
 
-// Whether a receive buffer in the book, at its handed-over length, touches block b. The last word begins no descriptor; that it is not
-// asked spares `is_touching` its test of i in the compiled loop.
+// Whether a receive buffer in the book, at its handed-over length, touches block b. The last word begins no descriptor, and is
+// not asked.
 fn in_reception(m: &Memory, lens: &Lengths, b: u32) -> bool
     ensures { result ≡ in_reception (word m.now) lens.now b }
 {

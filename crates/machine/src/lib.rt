@@ -28,7 +28,8 @@ pub struct After {
     pub burst: Burst,
 }
 
-// What the controller has told, as an answer. A match and no `told.map(..).into()`: the definition goes by the number, told or not.
+// What the controller has told, as an answer. A match and no `told.map(..).into()`: of `map` the clause tells its cases by the closure, and
+// the proof did not close.
 fn plain(told: Result<(), Refusal>) -> Answer
     ensures { result ≡ answer_of (fault told) }
 {
@@ -49,7 +50,7 @@ fn keep(ctl: Controller, answer: Answer) -> After
     }
 }
 
-// The controller's own answer to an accepted write: 22 there is the answer.
+// The controller's own answer to an accepted write: 22 there is the answer. By hand: another answer goes with an accepted one.
 fn meet(s: Stepped, answer: Answer) -> After
     ensures { result ≡ met s.ctl (fault s.answer) answer }
 {

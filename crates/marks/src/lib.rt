@@ -17,7 +17,7 @@ use words::{read_word, write_word};
 const OVERRUN: u32 = 22;
 
 // A word with n as its packet length, or as a receive buffer's length.
-// The bound of a length stays a clause, here and below, and no type: each caller has just tested the number.
+// The bound of a length stays a clause, here and below, and no type: the engines have just tested the number.
 #[tactic(auto, unfolding(crate::specs::Marks::put_length))]
 fn put_length(n: u32, w: u32) -> u32
     requires { n < short_end }

@@ -252,6 +252,7 @@ pub fn put_event(out: &mut [u8], at: usize, e: Event) -> usize
             Buffer::new().format(u64::from(l)).as_bytes(),
             u64::from(n),
         ),
+        // Two matches: first what kind of event it is, then which burst.
         Event::Moved(b) => match b {
             Burst::Quiet => at,
             Burst::Read(a, n) => put_line(out, at, b'R', &hex8(a), u64::from(n)),

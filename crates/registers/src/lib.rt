@@ -1,6 +1,6 @@
 // The small state of guard and controller, one table of words, and the rules 4 to 10 of a register write.
-// Promises: each rule gives the refusal with the lowest number that document 01 gives, of one queue; after a write without a fault the
-// table is exactly what 01 says. Nothing here knows descriptors, chains or engines.
+// Promises: each rule gives the refusal with the lowest number that document 01 gives, of one queue or, for the reset, of all; after a
+// write without a fault the table is exactly what 01 says. Nothing here knows descriptors, chains or engines.
 // Document 01, "The book and the release", "Judging".
 
 #![tactic(auto)]

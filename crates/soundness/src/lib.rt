@@ -2,6 +2,7 @@
 // Promises: the answer is `sound_book` of document 01, "The book and the release", for every book; nothing but the scratch set is changed.
 // It counts instead of comparing (specs/Spent.antt): the words in use are counted, each descriptor of each queue takes four of them
 // away, and nothing may be left.
+// The parts of a book stay lent apart, as in crate book.
 
 #![tactic(auto)]
 
