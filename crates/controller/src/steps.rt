@@ -130,6 +130,7 @@ pub fn reset_step(mut c: Controller) -> Stepped
     c.state[MARKS_AT] = 0;
     c.state[RESET_AT] = 0;
     c.state[BIT_AT] = 0;
-    c.channels = idle_channels();
+    let idle = idle_channels();
+    c.channels = idle;
     give(c, Ok(()))
 }

@@ -23,7 +23,7 @@ unfolding reset_step
 returns c = λ m.
     let a = c.args.c in
     let idle = ap (λ (l : List Channel). answer 0 (set_state (set_reset_bit 0 (unmarked a.state)) (set_channels l a)) m)
-    c.idle_channels-c.ensures in
+    c.idle_channels-idle.ensures in
     simp (
       sym c.is_resetting.ensures ∙ c.if-not-is_resetting.false,
       sym c.are_all_quiet.ensures ∙ c.if-not-are_all_quiet.false,
