@@ -63,10 +63,13 @@ impl Controller {
     fn write_class(&mut self, n: u8, v: u32) -> Result<(), Refusal>
         ensures { (m : List ℕ) → answer (fault result) self.new m ≡ register_write n v self.old m }
     {
-        match register_fault(&self.state, n, v) {
+        // The rules are asked of a copy of the registers: by a loan of these the whole record would be copied once more for its answer.
+        let mut t = self.state;
+        match register_fault(&t, n, v) {
             Ok(()) => {
                 self.begin_engine(n);
-                write_register(&mut self.state, n, v);
+                write_register(&mut t, n, v);
+                self.state = t;
                 Ok(())
             }
             // Two matches: behind the pattern `Err(Refusal::NotGuarded)` no fact with a name of its own says that it is another refusal.
