@@ -3,16 +3,13 @@
 --     number-single, number-chain    its number, over a copy of the words in use too
 --     over-refused, over-taken       a chain: refused, or handed over
 --     append-refused, append-taken   an append
-use Rattle.std.proofs.Common.{◌≡◌, ℕ, List, refl, ap, ◌∙◌, Result, ne_eqb}
-use Rattle.layout.specs.Refusals.{refusal_number}
+use Rattle.std.proofs.Common.{◌≡◌, ◌≢◌, ℕ, List, refl, ap, ◌∙◌, Result, ne_eqb}
 use Rattle.layout.specs.declared.Side.{Side}
-use Rattle.layout.specs.declared.refusals.Refusal.{Refusal}
 use Rattle.words.specs.Word.{word, put}
 use Rattle.chain.specs.Chain.{place_of, chain_of, Said, verdict_of, verdict_number}
 use Rattle.chain.proofs.VerdictLaws.{verdict-number}
 use Rattle.book.specs.HandOver.{Uses, taken_from}
 use Rattle.guard.specs.Rulings.{handed_over, appended}
-use Rattle.layout.proofs.RefusalLaws.{refusal-some}
 
 pub verdict-used : (side : Side) (kinds : List ℕ) (w : ℕ → ℕ) (u met met2 : List ℕ) (p : ℕ) (c : Result Unit Said) → met ≡ u
     → (c, met2) ≡ verdict_of side kinds w met p
@@ -31,20 +28,19 @@ module _ (side : Side) (kinds : List ℕ) (w : ℕ → ℕ) (u : List ℕ) (p : 
       → n ≡ verdict_number v → n ≡ number
   number-chain {v} {n} {met} {l} s e f = number-single (verdict-used side kinds w u met l p v s e) f
 
-  pub over-refused : (l : List ℕ) (r : Refusal) → refusal_number r ≡ number
-      → (refusal_number r, (u, l)) ≡ handed_over side kinds w (u, l) p
+  pub over-refused : (l : List ℕ) (n : ℕ) → n ≡ number → n ≢ 0 → (n, (u, l)) ≡ handed_over side kinds w (u, l) p
   unfolding handed_over
-  over-refused l r e = rw (← e, ne_eqb (refusal_number r) 0 (refusal-some r)) refl
+  over-refused l n e h = rw (← e, ne_eqb n 0 h) refl
 
   pub over-taken : (l : List ℕ) (x : Uses) → 0 ≡ number → x ≡ taken_from w side (u, l) p → (0, x) ≡ handed_over side kinds w (u, l) p
   unfolding handed_over
   over-taken l x e f = rw (← e, f) refl
 
 module _ (side : Side) (kinds : List ℕ) (k : ℕ) (m u : List ℕ) (p : ℕ) where
-  pub append-refused : (l : List ℕ) (r : Refusal) → refusal_number r ≡ number side kinds (word m) u p
-      → (refusal_number r, (u, l), m) ≡ appended side kinds k m (u, l) p
+  pub append-refused : (l : List ℕ) (n : ℕ) → n ≡ number side kinds (word m) u p → n ≢ 0
+      → (n, (u, l), m) ≡ appended side kinds k m (u, l) p
   unfolding appended
-  append-refused l r e = rw (← e, ne_eqb (refusal_number r) 0 (refusal-some r)) refl
+  append-refused l n e h = rw (← e, ne_eqb n 0 h) refl
 
   pub append-taken : (l : List ℕ) (x : Uses) (y : List ℕ) → 0 ≡ number side kinds (word m) u p → x ≡ taken_from (word m) side (u, l) p
       → y ≡ put m k p

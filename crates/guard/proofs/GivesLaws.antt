@@ -9,18 +9,16 @@
 --     admitted-refused, -passed, -sound   1 or 2, or what the call itself does
 --     write-refused, write-gives, write-sound   a whole guest write
 --     store_word, store-sound       a store to a free word, where there is nothing to release
+--     store-here, store-nowhere, store-used, store-unquiet   a word that is one, and three cases that are none
 --     state-1, state-2, state-0     1 and 2 as the functions find them
 use Rattle.std.proofs.Common.{◌≡◌, ℕ, ◌+◌, ◌-◌, ◌/◌, ◌%◌, ◌<◌, ◌≤◌, Bool, true, false, not, eqb, ltb, ◌≢◌, List, Some, None, length, sym}
 use Rattle.std.proofs.Common.{refl, ap, ◌∙◌}
 use Rattle.std.proofs.Common.{arith, le-ltb, lt-ltb, eq-eqb, ne_eqb, eqb-true}
 use borrow.Author.Tests.{not-true, not-false}
 use Rattle.layout.specs.Choice.{pick, both}
-use Rattle.layout.proofs.RefusalLaws.{refusal-some}
 use Rattle.layout.specs.Layout.{desc_first, desc_bytes, in_descriptors, queues, side_of, channel_of}
 use Rattle.layout.specs.Class.{class_at, hdp_class}
-use Rattle.layout.specs.Refusals.{refusal_number}
 use Rattle.layout.specs.declared.Side.{Side}
-use Rattle.layout.specs.declared.refusals.Refusal.{Refusal}
 use Rattle.layout.proofs.ChoiceLaws.{clash, both_left, both_right}
 use Rattle.words.specs.Word.{word, put}
 use Rattle.words.specs.WordSet.{has}
@@ -56,9 +54,9 @@ pick-false : {A : Type 0} (b : Bool) (x y : A) → b ≡ false → pick b x y �
 pick-false b x y e = rw e refl
 
 -- a register judge that found a fault, and one that wrote
-pub ruled-refused : {f : ℕ} (r : Refusal) (t t₁ : List ℕ) → refusal_number r ≡ f → (Refused (refusal_number r), t) ≡ ruled f t₁ t
+pub ruled-refused : {n f : ℕ} (t t₁ : List ℕ) → n ≡ f → n ≢ 0 → (Refused n, t) ≡ ruled f t₁ t
 unfolding ruled
-ruled-refused r t t₁ e = rw (← e) (sym (number-no (refusal_number r) _ _ (refusal-some r)))
+ruled-refused {n} t t₁ e h = rw (← e) (sym (number-no n _ _ h))
 
 pub ruled-wrote : {f : ℕ} (t : List ℕ) {t₁ t₂ : List ℕ} → 0 ≡ f → t₂ ≡ t₁ → (Accepted Plain, t₂) ≡ ruled f t₁ t
 unfolding ruled
@@ -101,6 +99,34 @@ unfolding free_word
 store-here w t u a k i e h n q =
     let free : has u ((a - desc_first) / 4) ≡ false = ap (has u) (sym e) ∙ n in
     simp (i, eq-eqb (a % 4) 0 h, free, q)
+
+-- and three cases that are none: no word there, a word in use, and something to release
+pub store-nowhere : (w : ℕ → ℕ) (t u : List ℕ) (a : ℕ) → both (in_descriptors a) (eqb (a % 4) 0) ≡ false → plain_store a w t u ≡ false
+unfolding free_word
+store-nowhere w t u a e = at (in_descriptors a) (eqb (a % 4) 0) _ e
+  where
+    at : (b c d : Bool) → both b c ≡ false → both (both b (both c d)) (quiet w t) ≡ false
+    at true true d f = clash refl f
+    at true false d f = refl
+    at false c d f = refl
+
+pub store-used : (w : ℕ → ℕ) (t u : List ℕ) (a k : ℕ) → k ≡ (a - desc_first) / 4 → has u k ≡ true → plain_store a w t u ≡ false
+unfolding free_word
+store-used w t u a k e h =
+    let used : has u ((a - desc_first) / 4) ≡ true = ap (has u) (sym e) ∙ h in
+    rw used (at (in_descriptors a) (eqb (a % 4) 0))
+  where
+    at : (b c : Bool) → both (both b (both c false)) (quiet w t) ≡ false
+    at true true = refl
+    at true false = refl
+    at false c = refl
+
+pub store-unquiet : (w : ℕ → ℕ) (t u : List ℕ) (a : ℕ) → quiet w t ≡ false → plain_store a w t u ≡ false
+store-unquiet w t u a q = rw q (at (free_word a u))
+  where
+    at : (b : Bool) → both b false ≡ false
+    at true = refl
+    at false = refl
 
 module _ (m k t u l : List ℕ) where
   abbrev here : World
@@ -155,10 +181,9 @@ module _ (m k t u l : List ℕ) where
   -- ---- HDP
 
   module _ (q v : ℕ) where
-    pub head-refused : (r : Refusal) → refusal_number r ≡ head_number t q v
-        → Gives (judge_head q v here) (Refused (refusal_number r)) m k t u l
+    pub head-refused : {n : ℕ} → n ≡ head_number t q v → n ≢ 0 → Gives (judge_head q v here) (Refused n) m k t u l
     unfolding judge_head
-    head-refused r e = gives_as (rw (← e) (number-no (refusal_number r) _ _ (refusal-some r))) (refused-gives (refusal_number r))
+    head-refused {n} e h = gives_as (rw (← e) (number-no n _ _ h)) (refused-gives n)
 
     module _ (e : 0 ≡ head_number t q v) {a : Bool} (f : a ≡ awaiting t) where
       pub head-zeroed : a ≡ true → {t' : List ℕ} → t' ≡ head_written t q v → Gives (judge_head q v here) (Accepted Plain) m k t' u l
@@ -311,11 +336,9 @@ module _ (m k t u l : List ℕ) where
   passed-at false g o e = absurd (omega arith)
 
   module _ (act : World → Outcome) where
-    pub admitted-refused : (r : Refusal) → refusal_number r ≡ state_fault m k t u l
-        → Gives (admitted here act) (Refused (refusal_number r)) m k t u l
+    pub admitted-refused : {n : ℕ} → n ≡ state_fault m k t u l → n ≢ 0 → Gives (admitted here act) (Refused n) m k t u l
     unfolding admitted state_fault unfit sound_world
-    admitted-refused r e =
-        refused-at (fit_parts m k) (sound_book (word m) t u l) (refusal_number r) (act (release here)) e (refusal-some r)
+    admitted-refused {n} e h = refused-at (fit_parts m k) (sound_book (word m) t u l) n (act (release here)) e h
 
     pub admitted-passed : 0 ≡ state_fault m k t u l → admitted here act ≡ act (release here)
     unfolding admitted state_fault unfit sound_world
@@ -338,10 +361,9 @@ module _ (m k t u l : List ℕ) where
       at true c x y = eqb-true (length m) desc_bytes x
       at false c x y = absurd (omega arith)
 
-  pub write-refused : (a v : ℕ) (r : Refusal) → refusal_number r ≡ state_fault m k t u l
-      → Gives (guest_write a v here) (Refused (refusal_number r)) m k t u l
+  pub write-refused : (a v : ℕ) {n : ℕ} → n ≡ state_fault m k t u l → n ≢ 0 → Gives (guest_write a v here) (Refused n) m k t u l
   unfolding guest_write
-  write-refused a v r e = admitted-refused (λ s. judge a v s) r e
+  write-refused a v e h = admitted-refused (λ s. judge a v s) e h
 
   pub write-gives : (a v : ℕ) → 0 ≡ state_fault m k t u l → {r : Answer} {m' t' u' l' : List ℕ}
       → Gives (judge a v (release here)) r m' k t' u' l'

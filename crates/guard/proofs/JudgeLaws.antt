@@ -3,7 +3,7 @@
 --     last-test, last-no                         whether it begins at a word
 --     tail-here, tail-next, tail_none            the queue whose last descriptor begins at a word, number by number
 --     tail-bound                                 it is one of them
---     word-found, word-none                      the word at an address
+--     word-found, word-nowhere, word-none        the word at an address
 use Rattle.std.proofs.Common.{◌≡◌, ℕ, zero, suc, ◌+◌, ◌-◌, ◌/◌, ◌%◌, ◌<◌, ◌≤◌, Bool, true, false, eqb, List}
 use Rattle.std.proofs.Common.{[], ◌∷◌, length, get_or, take, drop, sym, Option, Some, None}
 use Rattle.std.proofs.lemmas.List.{length-take}
@@ -150,6 +150,9 @@ module _ (a : ℕ) where
       let f = found-at (both (in_descriptors a) (eqb (a % 4) 0)) k e in
       let i = both_left (in_descriptors a) (eqb (a % 4) 0) f.0 in
       (i, eqb-true (a % 4) 0 (both_right (in_descriptors a) (eqb (a % 4) 0) f.0), f.1, omega (arith, in_descriptors-bounds a i))
+
+  pub word-nowhere : None ≡ found (both (in_descriptors a) (eqb (a % 4) 0)) → both (in_descriptors a) (eqb (a % 4) 0) ≡ false
+  word-nowhere e = none_at (both (in_descriptors a) (eqb (a % 4) 0)) e
 
   pub word-none : a % 4 ≡ 0 → None ≡ found (both (in_descriptors a) (eqb (a % 4) 0)) → in_descriptors a ≡ false
   word-none h e = at (in_descriptors a) (eqb (a % 4) 0) (eq-eqb (a % 4) 0 h) (none_at (both (in_descriptors a) (eqb (a % 4) 0)) e)

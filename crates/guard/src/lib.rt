@@ -445,10 +445,10 @@ pub fn state_fault(
     Ok(())
 }
 
-// The word at a, if a write there is a store and nothing else.
+// The word at a, if a write there is a store and nothing else; none where it is not.
 fn stored_word(a: u32, m: &Memory, t: &State, used: &Words) -> Option<usize>
-    ensures { IfSome result (λ k. (k ≡ (a - desc_first) / 4) × (k < desc_words)
-        × (plain_store a (word m.now) t.now used.now ≡ true)) }
+    ensures { MatchOption result (plain_store a (word m.now) t.now used.now ≡ false)
+        (λ k. (k ≡ (a - desc_first) / 4) × (k < desc_words) × (plain_store a (word m.now) t.now used.now ≡ true)) }
 {
     let k = word_at(a)?;
     if is_used(used, k) {

@@ -18,8 +18,6 @@ use borrow.Author.Tests.{eq-eqb, ne_eqb, le-ltb, lt-ltb, le-leb, lt-leb}
 use Rattle.std.proofs.Common.{◌||◌}
 use Rattle.std.specs.List.{list_any, enumerate_from}
 use Rattle.layout.specs.Choice.{pick, both}
-use Rattle.layout.specs.Refusals.{refusal_number}
-use Rattle.layout.specs.declared.refusals.Refusal.{Refusal}
 use Rattle.layout.specs.Layout.{desc_bytes, desc_words, ram_first, block_bytes}
 use Rattle.words.specs.Word.{word_at, word}
 use Rattle.blocks.specs.Room.{touches}
@@ -29,7 +27,6 @@ use Rattle.guard.specs.declared.Answer.{Answer}
 use Rattle.guard.specs.declared.Answer.TheVariants.{Accepted, Refused}
 use Rattle.guard.specs.Answers.{accept, refuse, answer_to, world_at, Gives}
 use Rattle.guard.specs.Guard.{state_fault}
-use Rattle.layout.proofs.RefusalLaws.{refusal-some}
 use Rattle.guard.proofs.GivesLaws.{gives_as, admitted-refused, admitted-passed, admitted-sound}
 use Rattle.kinds.specs.Kinds.{received, in_reception, kind_number, judge_kind, kind_change}
 use Rattle.kinds.specs.Parts.{kind_outcome}
@@ -148,10 +145,9 @@ module _ (b k : ℕ) (w : ℕ → ℕ) (lens kinds : List ℕ) where
   unfolding kind_number
   kind-tests e = bounds-at (ltb b (length kinds)) (leb 1 k) (leb k 4) _ e
 
-  pub kind-refused : (r : Refusal) → refusal_number r ≡ kind_number b k w lens kinds
-      → (refusal_number r, kinds) ≡ kind_outcome b k w lens kinds
+  pub kind-refused : (n : ℕ) → n ≡ kind_number b k w lens kinds → n ≢ 0 → (n, kinds) ≡ kind_outcome b k w lens kinds
   unfolding kind_outcome
-  kind-refused r e = rw (← e, ne_eqb (refusal_number r) 0 (refusal-some r)) refl
+  kind-refused n e h = rw (← e, ne_eqb n 0 h) refl
 
   pub kind-changed : 0 ≡ kind_number b k w lens kinds → (0, set kinds b k) ≡ kind_outcome b k w lens kinds
   unfolding kind_outcome
@@ -199,10 +195,9 @@ module _ (m k t u l : List ℕ) where
         → Gives (judge_kind i v (world_at m k t₁ u₁ l₁)) r m k' t' u' l' → Gives (judge_kind i v (release here)) r m k' t' u' l'
     kind-released e g = gives_as (ap (λ (s : World). judge_kind i v s) e) g
 
-    pub change-refused : (r : Refusal) → refusal_number r ≡ state_fault m k t u l
-        → Gives (kind_change i v here) (Refused (refusal_number r)) m k t u l
+    pub change-refused : {n : ℕ} → n ≡ state_fault m k t u l → n ≢ 0 → Gives (kind_change i v here) (Refused n) m k t u l
     unfolding kind_change
-    change-refused r e = admitted-refused m k t u l (λ s. judge_kind i v s) r e
+    change-refused e h = admitted-refused m k t u l (λ s. judge_kind i v s) e h
 
     pub change-gives : 0 ≡ state_fault m k t u l → {r : Answer} {k' t' u' l' : List ℕ}
         → Gives (judge_kind i v (release here)) r m k' t' u' l'

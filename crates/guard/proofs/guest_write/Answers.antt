@@ -1,9 +1,10 @@
 -- `guard::guest_write`: 1 or 2, then the release and the judge. Assumes nothing.
+use Rattle.layout.proofs.RefusalLaws.{refusal-some}
 use Rattle.guard.proofs.GivesLaws.{zero-size, released-same, write-refused, write-gives}
 use Rattle.guard.proofs.guest_write.Goals as goal
 
 pub returns-in-Err : goal.returns-in-Err
-returns-in-Err c = rw c.into.ensures (write-refused _ _ _ _ _ _ _ _ c.in-Err.ensures)
+returns-in-Err c = rw c.into.ensures (write-refused _ _ _ _ _ _ _ c.in-Err.ensures (refusal-some _))
 
 pub unwrap-requires : goal.unwrap-requires
 unwrap-requires c = c.as_mut_array.ensures.variant.1 (zero-size _ _ _ _ _ c.in_default.ensures)
