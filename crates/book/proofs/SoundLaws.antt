@@ -5,8 +5,8 @@
 --     walk_end, -bad, -met, -go          the chain walk by cases: at 0, at a pointer that is not good, at a word met before, else
 --     firsts-bad                         the same for the first words
 --     walk-on, -over, -falls, firsts-on, -over, -falls   one step told: the walk goes on, with fewer free words, or it is over
---     same_list-is                        two lists are the same where the library's comparison says so
---     fit_on, fit-next, lengths_fit-is      the lengths asked one after the other: one pair more, and all of them
+--     same_list-is, lengths_fit-is         both comparisons are the library's of two lists, with a test at each entry
+--     fit_on, fit-next, lengths_fit-zip     the lengths asked one after the other: one pair more, and all of them
 --     sound-flags, -walk, -words, -lengths   the four tests of soundness, in their order
 use Prim.Native.Nat.{ℕ, zero, suc, ◌<◌}
 use mathlib.Core.Path.{◌≡◌, refl, ap, ◌∙◌, sym}
@@ -166,6 +166,13 @@ same_list-is [] (y ∷ b) = refl
 same_list-is (x ∷ a) [] = refl
 same_list-is (x ∷ a) (y ∷ b) = and-is (eqb x y) (pointwise eqb a b) ∙ ap (λ (t : Bool). both (eqb x y) t) (same_list-is a b)
 
+pub lengths_fit-is : (a b : List ℕ) → pointwise length_fits a b ≡ lengths_fit a b
+lengths_fit-is [] [] = refl
+lengths_fit-is [] (y ∷ b) = refl
+lengths_fit-is (x ∷ a) [] = refl
+lengths_fit-is (x ∷ a) (y ∷ b) =
+    and-is (length_fits x y) (pointwise length_fits a b) ∙ ap (λ (t : Bool). both (length_fits x y) t) (lengths_fit-is a b)
+
 -- the lengths asked one after the other
 abbrev pub fit_on : Bool → ℕ × ℕ → Bool
 fit_on fit e = fit && length_fits e.0 e.1
@@ -182,8 +189,8 @@ fits-from fit (x ∷ a) (y ∷ b) h =
 pub fit-next : (l : List (ℕ × ℕ)) (e : ℕ × ℕ) {a b : Bool} → a ≡ fold fit_on true l → b ≡ fit_on a e → b ≡ fold fit_on true (l ++ e ∷ [])
 fit-next l e h k = k ∙ ap (λ (t : Bool). fit_on t e) h ∙ sym (fold-append fit_on true l (e ∷ []))
 
-pub lengths_fit-is : (a b : List ℕ) → length a ≡ length b → fold fit_on true (zip a b) ≡ lengths_fit a b
-lengths_fit-is a b h = fits-from true a b h
+pub lengths_fit-zip : (a b : List ℕ) → length a ≡ length b → fold fit_on true (zip a b) ≡ lengths_fit a b
+lengths_fit-zip a b h = fits-from true a b h
 
 -- ---- the tests of soundness, in their order
 

@@ -1,16 +1,18 @@
 -- Where a run stands behind each part of a turn. Assumes nothing.
 --     Ends, line-room, line-ends   a line that was printed, and those gathered before it
---     decoded-fits             what is decoded lies within the window
+--     decoded-fits, next_fits   what is decoded lies within the window, told of the window or of the part that was lent
 --     Went, acted-end, acted-bad, acted-good   what was decoded is played
 --     turned                   one turn whole
---     reached-none, reached-more, ended-more, no-end, ended-none   turns one after another, until the run is over, or none is left
+--     reached-none, reached-more, ended-more, no-end, reached-going, ended-none   turns one after another, until the run is over, or
+--                              none is left
 use Prim.Native.Nat.{ℕ, ◌+◌, ◌-◌, ◌≤◌, ◌<◌, min}
 use mathlib.Core.Path.{◌≡◌, refl, ap, ◌∙◌, sym, subst}
-use mathlib.Core.Bool.{Bool, false}
+use mathlib.Core.Bool.{Bool, true, false}
 use mathlib.Core.List.{List, [], ◌++◌, append_assoc, append-nil}
 use native.Mathlib.Omega.{arith}
 use lib.ListN.{length, take, drop, length-drop, length-append}
 use Rattle.std.proofs.Common.{Ok, Err, Option, None, Some, ControlFlow, Continue, Break}
+use Rattle.layout.proofs.ChoiceLaws.{clash}
 use Rattle.controller.specs.declared.Controller.{Controller}
 use Rattle.machine.specs.Machine.{Machine}
 use Rattle.machine.specs.After.{machine_at}
@@ -24,7 +26,7 @@ use Rattle.replay.specs.Replay.{record_of, replay}
 use Rattle.replay.specs.Plays.{Plays}
 use Rattle.window.specs.declared.Window.{Window}
 use Rattle.window.specs.Window.{window_of, Inside, Refilled, Passed}
-use Rattle.window.proofs.WindowLaws.{length-window, window-pass}
+use Rattle.window.proofs.WindowLaws.{window-part, length-window, window-pass}
 use Rattle.player.specs.declared.Run.{Run}
 use Rattle.player.specs.declared.Last.{Last}
 use Rattle.player.specs.Stands.{MayCome, Enough, Lines, Over, Stands, Holds, offset_end, run_at}
@@ -52,6 +54,13 @@ size-decoded bs (Err f) e = omega arith
 pub decoded-fits : (w : Window) (x : List ℕ) (d : Decoded) → Inside w x → d ≡ decode false (window_of w x)
     → w.from + size_of d ≤ w.len
 decoded-fits w x d h e = omega (arith, h.order, length-window w x h, size-decoded (window_of w x) d e)
+
+-- of the part that was lent
+pub next_fits : (w : Window) (x : List ℕ) (d : Decoded) → Inside w x → d ≡ decode false (take (w.len - w.from) (drop w.from x))
+    → (d ≡ decode false (window_of w x)) × (w.from + size_of d ≤ w.len)
+next_fits w x d h e =
+    let f : d ≡ decode false (window_of w x) = e ∙ ap (λ (l : List ℕ). decode false l) (window-part w x) in
+    (f, decoded-fits w x d h f)
 
 pub good-fits : (w : Window) {d : Decoded} {r : Record} {n : ℕ} → d ≡ Ok (Some (r, n)) → w.from + size_of d ≤ w.len → w.from + n ≤ w.len
 good-fits w e h = subst (λ (k : ℕ). w.from + k ≤ w.len) (ap size_of e) h
@@ -253,6 +262,18 @@ pub no-end : (s : Run) (m k t u l x y : List ℕ) (r : Run) (m1 k1 t1 u1 l1 x1 y
 no-end s m k t u l x y r m1 k1 t1 u1 l1 x1 y1 turns a h read wrote n f =
     let v = a.stands read wrote n f in
     omega (arith, v.0.place, v.1, n, h)
+
+-- none that goes on is reached with no turn left: fewer bytes were read than there are turns
+not_going : (t : Bool) (o n : ℕ) → (t ≡ true → offset_end ≤ 0 + o) → o + n < offset_end → t ≡ false
+not_going true o n f h = absurd (omega (arith, f refl, h))
+not_going false o n f h = refl
+
+pub reached-going : (s : Run) (m k t u l x y : List ℕ) (r : Run) (m1 k1 t1 u1 l1 x1 y1 : List ℕ)
+    (a : Reached 0 s m k t u l x y r m1 k1 t1 u1 l1 x1 y1)
+    → (read wrote : List ℕ) → length (read ++ a.got) < offset_end → Stands read wrote s m k t u l x y → ⊥
+reached-going s m k t u l x y r m1 k1 t1 u1 l1 x1 y1 a read wrote n f =
+    let v = a.stands read wrote n f in
+    clash refl (not_going true r.offset (length (window_of r.window x1)) (λ e. v.1) (omega (arith, v.0.place, n)))
 
 abbrev pub ended-none : (s : Run) (m k t u l x y : List ℕ) (r : Run) (m1 k1 t1 u1 l1 x1 y1 : List ℕ) (turns : ℕ)
     (a : Reached turns s m k t u l x y r m1 k1 t1 u1 l1 x1 y1) → turns ≤ 0 → Holds r x1 y1

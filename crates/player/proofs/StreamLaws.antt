@@ -4,8 +4,8 @@
 --     printed-on-all           the whole input, behind its first record
 --     written                  what the writer got in all is `replay` of what the reader had
 use Prim.Native.Nat.{ℕ, ◌+◌, ◌≤◌, ◌<◌}
-use mathlib.Core.Path.{◌≡◌, ap, ◌∙◌, sym, subst}
-use mathlib.Core.Bool.{Bool, true}
+use mathlib.Core.Path.{◌≡◌, refl, ap, ◌∙◌, sym, subst}
+use mathlib.Core.Bool.{Bool, true, false}
 use mathlib.Core.List.{List, [], ◌++◌, append_assoc, append-nil}
 use native.Mathlib.Omega.{arith}
 use lib.ListN.{length, take, drop, length-append}
@@ -13,6 +13,7 @@ use Rattle.std.specs.Prelude.{Option, Some, None, IfSome, IfOk}
 use Rattle.std.proofs.Common.{Result, Ok, Err, Continue, Break}
 use Rattle.std.specs.Io.KnownBytes.{Consumes, Appends}
 use Rattle.std.proofs.KnownBytes.{Consumes-nil, Consumes-trans, Appends-nil, Appends-trans}
+use Rattle.layout.specs.Choice.{pick}
 use Rattle.records.specs.declared.Record.TheVariants.{Ram}
 use Rattle.records.specs.Records.{decode}
 use Rattle.replay.specs.Replay.{replay}
@@ -62,9 +63,10 @@ module _ (left held : Option (List ℕ)) (s : Run) (m k t u l x y : List ℕ) wh
       ended = ended-more s m k t u l x y turns r m1 k1 t1 u1 l1 x1 y1 a.reached e m2 k2 t2 u2 l2 x2 y2 b.turned;
       read = Consumes-trans left left1 left2 a.reached.got b.turned.filled.got a.read b.read;
       right = λ e. b.right (a.right e);
-      wrote = λ read wrote n f.
-          subst (λ (z : List ℕ). Appends held held2 z) (sym (append_assoc a.reached.put (flushed r.at y1) (take e.end y2)))
+      last = true;
+      wrote = subst (λ (z : List ℕ). Appends held held2 z) (sym (append_assoc a.reached.put (flushed r.at y1) (take e.end y2)))
           (Appends-trans held held1 held2 a.reached.put (flushed r.at y1 ++ take e.end y2) a.wrote b.wrote);
+      over = λ read wrote n f. refl;
     }
 
   -- no turn is left
@@ -75,7 +77,9 @@ module _ (left held : Option (List ℕ)) (s : Run) (m k t u l x y : List ℕ) wh
     ended = ended-none s m k t u l x y r m1 k1 t1 u1 l1 x1 y1 turns a.reached h hold;
     read = a.read;
     right = a.right;
-    wrote = λ read wrote n f. absurd (omega (arith, no-end s m k t u l x y r m1 k1 t1 u1 l1 x1 y1 turns a.reached h read wrote n f));
+    last = false;
+    wrote = subst (λ (z : List ℕ). Appends held held1 z) (sym (append-nil a.reached.put)) a.wrote;
+    over = λ read wrote n f. absurd (omega (arith, no-end s m k t u l x y r m1 k1 t1 u1 l1 x1 y1 turns a.reached h read wrote n f));
   }
 
 -- ---- the whole input
@@ -89,7 +93,9 @@ module _ (w : Window) (x : List ℕ) (h : Enough (window_of w x) w.ended) (n : �
     printed = printed-all w x h n d g s b m k t u l y fresh kinds e y1 a.ended;
     read = a.read;
     right = λ z. a.right (λ e. z (sym b.window.ended ∙ e));
-    wrote = λ few. a.wrote (window_of w x) [] few (begun-stands w x h n d g s b m k t u l y fresh kinds);
+    wrote = λ few.
+        let over = a.over (window_of w x) [] few (begun-stands w x h n d g s b m k t u l y fresh kinds) in
+        subst (λ (z : Bool). Appends held held1 (a.ended.put ++ pick z (take e.end y1) [])) over a.wrote;
   }
 
 -- the reader had bs, and has `rest` left: `first` was read, and then what is printed behind it

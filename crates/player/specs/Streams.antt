@@ -4,10 +4,11 @@
 --                          got, and the input has ended only where the reader has no byte left
 -- `left`, `left'` are the bytes that the reader has left, before and after; `held`, `held'` those that the writer holds.
 -- Laws: proofs/StreamLaws.antt. Assumes nothing: these are definitions.
-use Rattle.std.specs.Prelude.{ℕ, ◌<◌, List, [], ◌++◌, length, take, Bool, Option}
+use Rattle.std.specs.Prelude.{ℕ, ◌<◌, ◌≡◌, true, List, [], ◌++◌, length, take, Bool, Option}
 use Rattle.std.specs.Io.KnownBytes.{Consumes, Appends}
 use Rattle.std.specs.declared.ops.ControlFlow.{ControlFlow}
 use Rattle.std.specs.declared.ops.ControlFlow.TheVariants.{Continue, Break}
+use Rattle.layout.specs.Choice.{pick}
 use Rattle.window.specs.Window.{EndsRight}
 use Rattle.player.specs.declared.Run.{Run}
 use Rattle.player.specs.declared.Last.{Last}
@@ -32,13 +33,15 @@ pub record ReachedOn (left left' held held' : Option (List ℕ)) (turns : ℕ) (
   pub right : EndsRight s.window.ended left → EndsRight r.window.ended left'
   pub wrote : Appends held held' reached.put
 
+-- `last`: what y' begins with was handed to the write too, which is so where the run is over
 pub record EndedOn (left left' held held' : Option (List ℕ)) (s : Run) (m k t u l x y : List ℕ) (e : Last)
     (y' : List ℕ) : Type 0 where
   pub ended : Ended s m k t u l x y e y'
   pub read : Consumes left left' ended.got
   pub right : EndsRight s.window.ended left → EndsRight e.ended left'
-  pub wrote : (read wrote : List ℕ) → length (read ++ ended.got) < offset_end → Stands read wrote s m k t u l x y
-      → Appends held held' (ended.put ++ take e.end y')
+  pub last : Bool
+  pub wrote : Appends held held' (ended.put ++ pick last (take e.end y') [])
+  pub over : (read wrote : List ℕ) → length (read ++ ended.got) < offset_end → Stands read wrote s m k t u l x y → last ≡ true
 
 -- the input is said to have ended before, or not
 pub record PrintedOn (left left' held held' : Option (List ℕ)) (ended : Bool) (first : List ℕ) (r : Last) (y : List ℕ) : Type 0 where

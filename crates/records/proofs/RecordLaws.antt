@@ -1,5 +1,6 @@
 -- How the definitions of a first and of a later record go, by what is asked in turn. Assumes nothing.
 --     ram-cut, ram-short    mark and N are cut; the kinds are cut
+--     ram-rest              the kinds are cut, as what stands behind mark and N tells it
 --     ram-whole             all N kinds are there: it is a record exactly where there are some and each fits
 --     ram-over              N is over the limit
 --     first-ram, first-bad  a first record is an `RM` record, or none
@@ -29,11 +30,12 @@ pub ram-cut : (bs : List ℕ) → length bs < 4 → decode_ram bs ≡ bad
 unfolding decode_ram
 ram-cut bs h = rw (lt-leb 4 (length bs) h)
 
-pub ram-short : (bs : List ℕ) (n : ℕ) → n ≡ u16_at bs 2 → length (take (length bs - 4) (drop 4 bs)) < n → bad ≡ decode_ram bs
+pub ram-short : (bs : List ℕ) (n : ℕ) → n ≡ u16_at bs 2 → length bs < 4 + n → bad ≡ decode_ram bs
 unfolding decode_ram
-ram-short bs n e h =
-    let cut : length bs < 4 + n = omega (arith, length-take (length bs - 4) (drop 4 bs), length-drop 4 bs) in
-    rw (lt-leb (4 + u16_at bs 2) (length bs) (rw e at cut), pick_same, pick_same)
+ram-short bs n e h = rw (lt-leb (4 + u16_at bs 2) (length bs) (rw e at h), pick_same, pick_same)
+
+pub ram-rest : (bs : List ℕ) (n : ℕ) → n ≡ u16_at bs 2 → length (take (length bs - 4) (drop 4 bs)) < n → bad ≡ decode_ram bs
+ram-rest bs n e h = ram-short bs n e (omega (arith, length-take (length bs - 4) (drop 4 bs), length-drop 4 bs))
 
 -- three tests in a row, asked as one, where N is within both limits
 three : (a b d c t : Bool) (x y : Decoded) → b ≡ true → d ≡ true → both a (both d c) ≡ t → pick (both a b) (pick c x y) y ≡ pick t x y

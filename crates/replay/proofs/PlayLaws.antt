@@ -1,11 +1,11 @@
 -- The parts put together: what an operation left, and the line that was printed for it. Assumes nothing.
 --     write-plays, kind-plays, frame-plays, step-goes   what happened in one operation, and its line
---     goes_none, goes-more        no step; one more behind those made
+--     made_none, goes_none, goes-more   none are made where all are left; no step; one more behind those made
 --     ram-plays, steps-plays      a `Ram` record, a `Steps` record
 --     steps-goes                  a `Steps` record, whatever kinds, small state, words in use and lengths
 --     record-plays                the record that was met
 --     line-end                    how far a line reaches
-use Prim.Native.Nat.{ℕ, zero, suc, ◌+◌, ◌≤◌}
+use Prim.Native.Nat.{ℕ, zero, suc, ◌+◌, ◌-◌, ◌≤◌}
 use mathlib.Core.Path.{◌≡◌, refl, ap, ◌∙◌, sym, subst}
 use mathlib.Core.List.{List, [], ◌∷◌, ◌++◌}
 use native.Mathlib.Nat.{add-zero}
@@ -78,6 +78,9 @@ step-goes e c m w m1 r x at y f g q k t u l =
     let p = g k t u l in told f _ _ _ p (ap (λ (z : Burst). Moved z) p.burst) q
 
 -- ---- steps one after another
+pub made_none : (n : ℕ) → n - n ≡ 0
+made_none n = omega arith
+
 pub goes_none : (e : Engine) (c : Controller) (m x : List ℕ) (at : ℕ) → Goes (steps_of e 0) c m (record { ctl = c; end = at }) m x at x
 goes_none e c m x at k t u l = record {
   ctl = refl;

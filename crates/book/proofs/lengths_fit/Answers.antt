@@ -4,7 +4,7 @@ use Rattle.std.proofs.lemmas.Iterator.{YieldsList-from_slice, YieldsList-from_zi
 use Rattle.std.proofs.lemmas.Fn.{fold_over, fronts}
 use Rattle.std.specs.Prelude.{fold}
 use Rattle.std.specs.List.{zip}
-use Rattle.book.proofs.SoundLaws.{fit_on, fit-next, lengths_fit-is}
+use Rattle.book.proofs.SoundLaws.{fit_on, fit-next, lengths_fit-zip}
 use Rattle.book.proofs.lengths_fit.Goals as goal
 
 pub returns : goal.returns
@@ -15,4 +15,4 @@ returns c =
     (λ l a x b f h k. (fit-next l (x.0.now, x.1.now) h (search rules), search rules))
     c.zip.result (zip xs ys) true c.fold.result
     (YieldsList-from_zip (YieldsList-from_slice xs (search rules)) (YieldsList-from_slice ys (search rules))).runs refl c.fold.ensures.ran
-    ∙ lengths_fit-is xs ys (search rules)
+    ∙ lengths_fit-zip xs ys (search rules)

@@ -2,7 +2,7 @@
 use mathlib.Core.Bool.{true, false}
 use mathlib.Core.Path.{sym, ◌∙◌}
 use native.Mathlib.Omega.{arith}
-use Rattle.records.proofs.RecordLaws.{ram-cut, ram-over, ram-short, ram-whole}
+use Rattle.records.proofs.RecordLaws.{ram-cut, ram-over, ram-rest, ram-whole}
 use Rattle.records.proofs.decode_ram.Goals as goal
 
 pub returns-in_default : goal.returns-in_default
@@ -12,7 +12,7 @@ pub returns-then-blocks-gt-RAM_MAX : goal.returns-then-blocks-gt-RAM_MAX
 returns-then-blocks-gt-RAM_MAX c = ram-over _ _ (c.from-blocks.ensures ∙ c.from_le_bytes-n.ensures) c.if-blocks-gt-RAM_MAX.true
 
 pub returns-in_default-get : goal.returns-in_default-get
-returns-in_default-get c = ram-short _ _ (c.from-blocks.ensures ∙ c.from_le_bytes-n.ensures)
+returns-in_default-get c = ram-rest _ _ (c.from-blocks.ensures ∙ c.from_le_bytes-n.ensures)
     (omega (arith, c.in_default-get.ensures.lookup))
 
 pub returns-then-not-kinds_fit : goal.returns-then-not-kinds_fit
