@@ -261,7 +261,8 @@ fn save_record(
     *rest = [k.sent, k.received, u64::from(k.undefined)];
 }
 
-// What a step left, into the parts and the burst's words, and its answer. Compiled into each caller, so that no record is written out for a call.
+// What a step left, into the parts and the burst's words, and its answer. Compiled into each caller, so that no record is written out for
+// a call.
 #[inline(always)]
 fn save_stepped(
     state: &mut State,
