@@ -22,22 +22,22 @@ returns-then-is_empty c =
           simp (le-leb 1 n (omega arith), lt-leb n blocks_max many)
     ]
 
-pub loop-kind-init : goal.loop-kind-init
-loop-kind-init c = refl
+pub loop-i-init : goal.loop-i-init
+loop-i-init c = refl
 
-pub loop-kind-preserved : goal.loop-kind-preserved
-loop-kind-preserved c =
-    let l = c.loop-kind in
+pub loop-i-preserved : goal.loop-i-preserved
+loop-i-preserved c =
+    let l = c.loop-i in
     let xs = c.args.kinds.now in
-    ap (λ (m : ℕ). both (leb m 4) (all_kinds (drop (l.kind-index + 1) xs))) (c.max-top.ensures ∙ ord_max-is _ _)
-    ∙ scan-next xs l.top l.kind-index c.loop-kind-test.true
+    ap (λ (m : ℕ). both (leb m 4) (all_kinds (drop (l.i + 1) xs))) (c.max-top.ensures ∙ ord_max-is _ _)
+    ∙ scan-next xs l.top l.i c.loop-i-test.true
     ∙ l.invariant
 
 pub returns : goal.returns
 unfolding fit_kinds
 returns c =
-    let l = c.loop-kind in
+    let l = c.loop-i in
     let xs = c.args.kinds.now in
     let some : leb 1 (length xs) ≡ true = le-leb 1 _ (omega (arith, eqb-false _ _ (sym c.is_empty.ensures ∙ c.if-is_empty.false))) in
     simp (some, le-leb (length xs) blocks_max c.if-kinds-gt-BLOCKS_MAX.false)
-    (sym (scan-end xs l.top l.kind-index c.loop-kind-test.false) ∙ l.invariant)
+    (sym (scan-end xs l.top l.i c.loop-i-test.false) ∙ l.invariant)

@@ -4,5 +4,5 @@ use Rattle.layout.specs.Choice.{both}
 use Rattle.blocks.specs.Kinds.{all_kinds}
 use Rattle.blocks.proofs.kinds_fit.Given as goal
 
-abbrev pub invariant-loop-kind : goal.invariant-loop-kind
-invariant-loop-kind l = both (leb l.top 4) (all_kinds (drop l.kind-index l.kinds)) ≡ all_kinds l.kinds
+abbrev pub invariant-loop-i : goal.invariant-loop-i
+invariant-loop-i l = both (leb l.top 4) (all_kinds (drop l.i l.kinds)) ≡ all_kinds l.kinds
