@@ -213,6 +213,16 @@ fn first_kinds(bs: &[u8]) -> Option<&[u8]>
     }
 }
 
+// The kinds of the first record into the table, one by one, so that a kind that is lost can be planted.
+fn copy_kinds(listed: &[u8], kinds: &mut [u8])
+    requires { length kinds.old ≡ length listed.now }
+    ensures { kinds.new ≡ listed.now }
+{
+    for i in 0..listed.len() {
+        kinds[i] = listed[i];
+    }
+}
+
 // The whole input, whose first bytes stand in the window, on the tables of a fresh machine. Where a read or a write fails, nothing is
 // known of what the two buffers hold.
 fn play_input<R: Read, W: Write>(
@@ -241,7 +251,7 @@ fn play_input<R: Read, W: Write>(
         });
     };
     let kinds = &mut kinds[..listed.len()];
-    kinds.copy_from_slice(listed);
+    copy_kinds(listed, kinds);
     let size = KINDS_AT + listed.len();
     let first = Run {
         ctl: controller::fresh(),

@@ -37,8 +37,8 @@ pub slice_bounds-kinds-end-2 : goal.slice_bounds-kinds-end-2
 slice_bounds-kinds-end-2 g c =
     sym (length-take-le _ _ (le_of (first-of c.bytes.ensures c.in-Some.ensures.count).few c.requires.2))
 
-pub copy_from_slice-requires : goal.copy_from_slice-requires
-copy_from_slice-requires g c =
+pub copy_kinds-requires : goal.copy_kinds-requires
+copy_kinds-requires g c =
     length-take-le _ _ (le_of (first-of c.bytes.ensures c.in-Some.ensures.count).few c.requires.2)
 
 pub pass-requires : goal.pass-requires
@@ -58,7 +58,7 @@ pub returns-clause-on : goal.returns-clause-on
 returns-clause-on g c =
     let n = length c.in-Some.listed.now in
     let f = first-of c.bytes.ensures c.in-Some.ensures.count in
-    let k = c.copy_from_slice.ensures.after ∙ c.in-Some.ensures.kinds ∙ ap (λ (l : List ℕ). take n (drop 4 l)) c.bytes.ensures in
+    let k = c.copy_kinds.ensures ∙ c.in-Some.ensures.kinds ∙ ap (λ (l : List ℕ). take n (drop 4 l)) c.bytes.ensures in
     IfOk-weaker c.replay_rest.result _ _
     (λ e a. printed-on-all c.args.w c.args.input.now c.requires.4 n f.is f.room _
     (record { ctl = c.fresh.ensures; at = refl; window = c.pass.ensures; offset = refl }) _ _ _ _ _ _
