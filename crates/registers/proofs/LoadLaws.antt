@@ -1,13 +1,15 @@
 -- The loading of the registers: the HDPs and the CPs are copied in one piece, the reset bit by itself. Assumes nothing.
 --     piece, copied      the table after the first, and after both
 --     registers-loaded   it is what `loaded` says, word by word
-use Rattle.std.proofs.Common.{◌≡◌, ℕ, ◌-◌, ◌<◌, ◌≤◌, ◌≢◌, Bool, true, false, List, length, get_or, set, arith, rules, refl, sym, ◌∙◌}
+--     next_word          one word loaded, and then the rest, is what loading from it on leaves
+use Rattle.std.proofs.Common.{◌≡◌, ℕ, zero, suc, ◌+◌, ◌-◌, ◌<◌, ◌≤◌, ◌≢◌, Bool, true, false, List, [], ◌∷◌, ◌++◌, length, take, drop}
+use Rattle.std.proofs.Common.{get_or, set, arith, rules, refl, ap, sym, ◌∙◌}
 use Rattle.std.proofs.lemmas.List.{ext_get_or, places, get_or-set_same, get_or-set_other}
 use borrow.Author.Tests.{le-leb, ltb-true, ltb-false, eqb-true, eqb-false}
 use borrow.Rule.Slice.PartMut.{put_mid, mid_of}
 use lib.Dec.{eqb, ltb}
 use Rattle.layout.specs.Choice.{pick}
-use Rattle.registers.specs.Table.{state_words, hdp_at, marks_at, bit_at, is_device, loaded}
+use Rattle.registers.specs.Table.{state_words, hdp_at, marks_at, bit_at, is_device, loaded_from, loaded}
 use Rattle.registers.proofs.TableLaws.{length-loaded, get_or-loaded, is_device-head, is_device-register}
 
 -- the HDPs and the CPs are p, the rest is t's
@@ -68,3 +70,11 @@ registers-loaded c t p l m e =
     ext_get_or 0 (copied c t p) (loaded c t) (n ∙ sym (length-loaded c t)) (λ k h.
     let g : k < length t = omega (arith, n, h) in
     word-copied c t p l m e k (omega (arith, l)) ∙ sym (get_or-loaded c t k g))
+
+-- one word more: word i, at place k of the list
+next_word : (i k : ℕ) (c t : List ℕ) → let u = set t k (pick (is_device i) (get_or c i 0) (get_or t k 0)) in
+    take (suc k) u ++ loaded_from (i + 1) c (drop (suc k) u) ≡ take k t ++ loaded_from i c (drop k t)
+next_word i zero c [] = refl
+next_word i zero c (x ∷ t) = refl
+next_word i (suc k) c [] = refl
+next_word i (suc k) c (x ∷ t) = ap (λ (r : List ℕ). x ∷ r) (next_word i k c t)
