@@ -94,8 +94,11 @@ fn change_released(
         m.now kinds.new t.new used.new lens.new }
 {
     release_book(m, t, used, lens);
-    change_block(block, kind, m, kinds, lens)?;
-    Ok(Effect::Plain)
+    // No `?`: each of the two ways stands with its own answer, so that an edit can plant a wrong one in either (reason a).
+    match change_block(block, kind, m, kinds, lens) {
+        Ok(()) => Ok(Effect::Plain),
+        Err(r) => Err(r),
+    }
 }
 
 // A kind change on a state that is known to be fit and sound.

@@ -1,6 +1,7 @@
 -- Texts stored in a buffer one behind the other. Assumes nothing.
 --     prints-then              a text, and another where it ended, are the two together
 --     prints-unique            any two outcomes are one
+--     prints-at                a place is known by its number, however it is said
 --     length-prints            the buffer keeps its length
 --     take-prints              what the buffer begins with, up to where the text ended
 --     prints-part              a text copied over the part where it is to stand
@@ -49,6 +50,9 @@ prints-then {x} {y} {z} {i} {j} {k} {l} {m} p q = record {
 
 pub prints-unique : {x y z : List ℕ} {i j k : ℕ} {l : List ℕ} → Prints x i l y j → Prints x i l z k → (j ≡ k) × (y ≡ z)
 prints-unique p q = (p.ends ∙ sym q.ends, p.bytes ∙ sym q.bytes)
+
+pub prints-at : {x y : List ℕ} {i k j : ℕ} {l : List ℕ} → i ≡ k → Prints x i l y j → Prints x k l y j
+prints-at e p = rw e at p
 
 pub length-prints : {x y : List ℕ} {i j : ℕ} {l : List ℕ} → Prints x i l y j → length y ≡ length x
 length-prints {x} {y} {i} {j} {l} p = ap length p.bytes ∙ length-sets x i l
