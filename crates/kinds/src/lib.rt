@@ -94,7 +94,8 @@ fn change_released(
         m.now kinds.new t.new used.new lens.new }
 {
     release_book(m, t, used, lens);
-    // No `?`: each of the two ways stands with its own answer, so that an edit can plant a wrong one in either (reason a).
+    // A match and no `?`: the answer to a refusal stands in an arm of its own, where an edit can say it wrong
+    // (docs/DESIGN-PASS.md, "What came back").
     match change_block(block, kind, m, kinds, lens) {
         Ok(()) => Ok(Effect::Plain),
         Err(r) => Err(r),

@@ -173,6 +173,9 @@ pub fn decode_record(bs: &[u8], first: bool) -> Result<Option<(Record, usize)>, 
 
 const HEX_DIGITS: usize = 8;
 
+// The most digits of a number of 64 bits.
+const DIGITS_MAX: usize = 20;
+
 const BLANK: u8 = b' ';
 
 const NEWLINE: u8 = b'\n';
@@ -231,6 +234,16 @@ fn put_line(out: &mut [u8], at: usize, letter: u8, part: &[u8], n: u64) -> usize
     put_text(out, newline, &[NEWLINE])
 }
 
+// A line whose first part is a number. Its digits are put apart first, so that `put_decimal` alone says how a number looks.
+fn put_number_line(out: &mut [u8], at: usize, letter: u8, b: u64, n: u64) -> usize
+    requires { at + line_max ≤ length out.old }
+    ensures { Prints out.old at (line_with letter (decimal b) n) out.new result }
+{
+    let mut part = [0; DIGITS_MAX];
+    let end = put_decimal(&mut part, 0, b);
+    put_line(out, at, letter, &part[..end], n)
+}
+
 // The line of what happened. A step without a burst has none.
 pub fn put_event(out: &mut [u8], at: usize, e: Event) -> usize
     requires { at + line_max ≤ length out.old }
@@ -238,20 +251,8 @@ pub fn put_event(out: &mut [u8], at: usize, e: Event) -> usize
 {
     match e {
         Event::Wrote(a, n) => put_line(out, at, b'W', &hex8(a), u64::from(n)),
-        Event::Changed(b, n) => put_line(
-            out,
-            at,
-            b'K',
-            Buffer::new().format(u64::from(b)).as_bytes(),
-            u64::from(n),
-        ),
-        Event::Framed(l, n) => put_line(
-            out,
-            at,
-            b'F',
-            Buffer::new().format(u64::from(l)).as_bytes(),
-            u64::from(n),
-        ),
+        Event::Changed(b, n) => put_number_line(out, at, b'K', u64::from(b), u64::from(n)),
+        Event::Framed(l, n) => put_number_line(out, at, b'F', u64::from(l), u64::from(n)),
         // Two matches: first what kind of event it is, then which burst.
         Event::Moved(b) => match b {
             Burst::Quiet => at,

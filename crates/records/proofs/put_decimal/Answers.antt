@@ -1,4 +1,5 @@
 -- `records::put_decimal`: the digits are those that std writes. Assumes nothing.
+-- The place is compared as a number (`prints-at`), so that a wrong one is refused for its value, and a right one in other words is not.
 use mathlib.Core.Path.{◌∙◌}
 use native.Mathlib.Omega.{arith}
 use Rattle.records.proofs.LineLaws.{decimal-same}

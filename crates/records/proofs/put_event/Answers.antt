@@ -3,7 +3,6 @@ use mathlib.Core.Path.{refl, ap, ◌∙◌}
 use native.Mathlib.Omega.{arith}
 use Rattle.records.specs.declared.Event.TheVariants.{Moved}
 use Rattle.records.specs.Lines.{line_of}
-use Rattle.records.proofs.LineLaws.{decimal-same}
 use Rattle.records.proofs.put_event.Goals as goal
 
 pub returns-in-Wrote : goal.returns-in-Wrote
@@ -12,17 +11,12 @@ returns-in-Wrote c = simp c.in-Wrote.is (rw (c.hex8.ensures, c.from.ensures) at 
 
 pub returns-in-Changed : goal.returns-in-Changed
 unfolding line_of
-returns-in-Changed c =
-    let digits = c.as_bytes.ensures.value ∙ c.format.ensures.text ∙ decimal-same _ c.from-in-Changed.type_inv in
-    simp c.in-Changed.is
-    (rw (digits, c.from-in-Changed.ensures, c.from-in-Changed-2.ensures) at c.put_line-in-Changed.ensures)
+returns-in-Changed c = simp c.in-Changed.is (rw (c.from-in-Changed.ensures, c.from-in-Changed-2.ensures) at c.put_number_line.ensures)
 
 pub returns-in-Framed : goal.returns-in-Framed
 unfolding line_of
 returns-in-Framed c =
-    let digits = c.as_bytes-in-Framed.ensures.value ∙ c.format-in-Framed.ensures.text ∙ decimal-same _ c.from-in-Framed.type_inv in
-    simp c.in-Framed.is
-    (rw (digits, c.from-in-Framed.ensures, c.from-in-Framed-2.ensures) at c.put_line-in-Framed.ensures)
+    simp c.in-Framed.is (rw (c.from-in-Framed.ensures, c.from-in-Framed-2.ensures) at c.put_number_line-in-Framed.ensures)
 
 pub returns-in-Quiet : goal.returns-in-Quiet
 unfolding line_of
