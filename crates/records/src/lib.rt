@@ -9,7 +9,8 @@
 ghost use Rattle.std.specs.Prelude.{◌≡◌, true, ◌+◌, ◌≤◌, ◌<◌, length};
 ghost use Rattle.records.specs.Records.{found, engine_of, decode_ram, decode_write, decode_kind, decode_frame, decode_steps};
 ghost use Rattle.records.specs.Records.{decode_later, decode};
-ghost use Rattle.records.specs.Lines.{digits_max, decimal, hex_digit, hex8, line_with, line_of, sent_line, bad_line, line_max, Prints};
+ghost use Rattle.records.specs.Lines.{digits_max, decimal, hex_digit, hex8, line_with, tail_with, line_of};
+ghost use Rattle.records.specs.Lines.{sent_line, bad_line, line_max, Prints};
 
 use blocks::kinds_fit;
 use itoa::Buffer;
@@ -173,9 +174,6 @@ pub fn decode_record(bs: &[u8], first: bool) -> Result<Option<(Record, usize)>, 
 
 const HEX_DIGITS: usize = 8;
 
-// The most digits of a number of 64 bits.
-const DIGITS_MAX: usize = 20;
-
 const BLANK: u8 = b' ';
 
 const NEWLINE: u8 = b'\n';
@@ -222,26 +220,34 @@ fn hex8(a: u32) -> [u8; HEX_DIGITS]
     digits
 }
 
+// What stands behind a line's first part: a blank, a number and a newline.
+fn put_tail(out: &mut [u8], at: usize, n: u64) -> usize
+    requires { at + (digits_max + 2) ≤ length out.old }
+    ensures { Prints out.old at (tail_with n) out.new result }
+{
+    let number = put_text(out, at, &[BLANK]);
+    let newline = put_decimal(out, number, n);
+    put_text(out, newline, &[NEWLINE])
+}
+
 // A line: a letter, a first part and a number.
 fn put_line(out: &mut [u8], at: usize, letter: u8, part: &[u8], n: u64) -> usize
     requires { (at + line_max ≤ length out.old) × (length part.now ≤ digits_max) }
     ensures { Prints out.old at (line_with letter part.now n) out.new result }
 {
     let first = put_text(out, at, &[letter, BLANK]);
-    let second = put_text(out, first, part);
-    let number = put_text(out, second, &[BLANK]);
-    let newline = put_decimal(out, number, n);
-    put_text(out, newline, &[NEWLINE])
+    let tail = put_text(out, first, part);
+    put_tail(out, tail, n)
 }
 
-// A line whose first part is a number. Its digits are put apart first, so that `put_decimal` alone says how a number looks.
+// A line whose first part is a decimal number too. `put_decimal` alone says how such a number looks.
 fn put_number_line(out: &mut [u8], at: usize, letter: u8, b: u64, n: u64) -> usize
     requires { at + line_max ≤ length out.old }
     ensures { Prints out.old at (line_with letter (decimal b) n) out.new result }
 {
-    let mut part = [0; DIGITS_MAX];
-    let end = put_decimal(&mut part, 0, b);
-    put_line(out, at, letter, &part[..end], n)
+    let first = put_text(out, at, &[letter, BLANK]);
+    let tail = put_decimal(out, first, b);
+    put_tail(out, tail, n)
 }
 
 // The line of what happened. A step without a burst has none.

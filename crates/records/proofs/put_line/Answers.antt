@@ -1,13 +1,6 @@
--- `records::put_line`: the letter, the first part and the number, one behind the other. Assumes nothing.
-use native.Mathlib.Omega.{arith}
+-- `records::put_line`: the letter, the first part and what stands behind it. Assumes nothing.
 use Rattle.records.proofs.PrintLaws.{prints-then}
-use Rattle.records.proofs.LineLaws.{length-decimal}
 use Rattle.records.proofs.put_line.Goals as goal
 
-pub put_text-requires : goal.put_text-requires
-put_text-requires c = omega (arith, length-decimal c.args.n)
-
 pub returns : goal.returns
-returns c = prints-then c.put_text-first.ensures
-    (prints-then c.put_text-second.ensures
-    (prints-then c.put_text-number.ensures (prints-then c.put_decimal-newline.ensures c.put_text.ensures)))
+returns c = prints-then c.put_text-first.ensures (prints-then c.put_text-tail.ensures c.put_tail.ensures)
